@@ -1,0 +1,175 @@
+-- Laws of the list shapes of specs/Lists, and of counting the indices at which a test holds.
+use Prim.Native.Nat.{ℕ, zero, suc, _+_, _≤_, _<_}
+use native.Mathlib.Nat.{not-suc-le-zero}
+use native.Mathlib.Omega.{arith}
+use native.Mathlib.Decide.{ℕ-discrete}
+use mathlib.Core.Path.{_≡_, refl, sym, ap, ap₂, _∙_}
+use mathlib.Core.Logic.{by-cases}
+use mathlib.Core.Bool.{Bool, true, false, cond, _||_, true≢false}
+use mathlib.Core.List.{List, [], _∷_, _++_, map}
+use lib.ListN.{length, getD, take, drop, set, replicate, length-append, length-take, length-drop, length-map, List·getD-append}
+use lib.Seq.{take-at, getD-take, drop-at, ext-getD}
+use Rattle.snapshot.specs.Lists.{over, eachFrom, each, firstFrom, firstBelow, someOf}
+
+-- ---- the first n places of a over those of b
+
+module _ {A : Type 0} (n : ℕ) (a b : List A) where
+  pub take-over : length (take n a) ≡ n → take n (over n a b) ≡ take n a
+  take-over l = take-at (take n a) (drop n b) n l
+
+  pub drop-over : length (take n a) ≡ n → drop n (over n a b) ≡ drop n b
+  drop-over l = drop-at (take n a) (drop n b) n l
+
+  pub length-over : length (take n a) ≡ n → n ≤ length b → length (over n a b) ≡ length b
+  length-over l m = simp (length-append, length-drop) (omega arith)
+
+  pub getD-over : (i : ℕ) (z : A) → length (take n a) ≡ n → i < n → getD (over n a b) i z ≡ getD a i z
+  getD-over i z l m = List·getD-append (take n a) (drop n b) z i (omega arith) ∙ getD-take n a i z m
+
+-- ---- each
+
+pub length-each-from : {A : Type 0} (f : ℕ → A) (k j : ℕ) → length (eachFrom f k j) ≡ k
+length-each-from f zero j = refl
+length-each-from f (suc k) j = ap suc (length-each-from f k (suc j))
+
+getD-each-from : {A : Type 0} (f : ℕ → A) (k j i : ℕ) (z : A) → i < k → getD (eachFrom f k j) i z ≡ f (j + i)
+getD-each-from f zero j i z l = absurd (not-suc-le-zero l)
+getD-each-from f (suc k) j zero z l = ap f (omega arith)
+getD-each-from f (suc k) j (suc i) z l = getD-each-from f k (suc j) i z (omega arith) ∙ ap f (omega arith)
+
+pub length-each : {A : Type 0} (n : ℕ) (f : ℕ → A) → length (each n f) ≡ n
+length-each n f = length-each-from f n 0
+
+pub getD-each : {A : Type 0} (n : ℕ) (f : ℕ → A) (i : ℕ) (z : A) → i < n → getD (each n f) i z ≡ f i
+getD-each n f i z l = getD-each-from f n 0 i z l ∙ ap f (omega arith)
+
+each-from-cong : {A : Type 0} (f g : ℕ → A) (k j : ℕ) → ((i : ℕ) → i < j + k → f i ≡ g i) → eachFrom f k j ≡ eachFrom g k j
+each-from-cong f g zero j h = refl
+each-from-cong {A} f g (suc k) j h =
+    ap₂ {C = List A} (λ x r. x ∷ r) (h j (omega arith)) (each-from-cong f g k (suc j) (λ i l. h i (omega arith)))
+
+pub each-cong : {A : Type 0} (n : ℕ) (f g : ℕ → A) → ((i : ℕ) → i < n → f i ≡ g i) → each n f ≡ each n g
+each-cong n f g h = each-from-cong f g n 0 (λ i l. h i (omega arith))
+
+-- a list of n elements is what stands at each index
+pub list-is-each : {A : Type 0} (n : ℕ) (z : A) (l : List A) → length l ≡ n → l ≡ each n (λ i. getD l i z)
+list-is-each n z l q =
+    ext-getD z l (each n (λ i. getD l i z)) (q ∙ sym (length-each n (λ i. getD l i z)))
+    (λ i h. sym (getD-each n (λ j. getD l j z) i z (omega arith)))
+
+-- ---- a map, and one place stored
+
+pub map-set : {A B : Type 0} (f : A → B) (l : List A) (i : ℕ) (a : A) → map f (set l i a) ≡ set (map f l) i (f a)
+map-set f [] i a = refl
+map-set f (x ∷ l) zero a = refl
+map-set {B = B} f (x ∷ l) (suc i) a = ap {B = List B} (λ r. f x ∷ r) (map-set f l i a)
+
+pub map-replicate : {A B : Type 0} (f : A → B) (n : ℕ) (a : A) → map f (replicate n a) ≡ replicate n (f a)
+map-replicate f zero a = refl
+map-replicate {B = B} f (suc n) a = ap {B = List B} (λ r. f a ∷ r) (map-replicate f n a)
+
+pub take-replicate : {A : Type 0} (n k : ℕ) (a : A) → n ≤ k → take n (replicate k a) ≡ replicate n a
+take-replicate zero k a l = refl
+take-replicate (suc n) zero a l = absurd (not-suc-le-zero l)
+take-replicate {A} (suc n) (suc k) a l = ap {B = List A} (λ r. a ∷ r) (take-replicate n k a (omega arith))
+
+-- a test that fails at every index fails of the list
+pub some-of-none : {A : Type 0} (f : A → Bool) (l : List A) (z : A) → ((i : ℕ) → i < length l → f (getD l i z) ≡ false) → someOf f l ≡ false
+some-of-none f [] z h = refl
+some-of-none f (x ∷ l) z h = ap (λ b. b || someOf f l) (h 0 (omega arith)) ∙ some-of-none f l z (λ i w. h (suc i) (omega arith))
+
+-- ---- searches
+
+module _ (f : ℕ → Bool) where
+  first-le : (k j : ℕ) → firstFrom f k j ≤ j + k
+  first-le zero j = omega arith
+  first-le (suc k) j = go (f j) (first-le k (suc j))
+    where
+      go : (b : Bool) → firstFrom f k (suc j) ≤ suc j + k → cond b j (firstFrom f k (suc j)) ≤ j + suc k
+      go true h = omega arith
+      go false h = omega arith
+
+  first-before : (k j i : ℕ) → j ≤ i → i < firstFrom f k j → f i ≡ false
+  first-before zero j i l h = absurd (omega arith)
+  first-before (suc k) j i l h = go (f j) refl (first-before k (suc j) i) h
+    where
+      go : (b : Bool) → f j ≡ b → (suc j ≤ i → i < firstFrom f k (suc j) → f i ≡ false) →
+          i < cond b j (firstFrom f k (suc j)) → f i ≡ false
+      go true q r m = absurd (omega arith)
+      go false q r m =
+          by-cases (ℕ-discrete i j) (λ e. ap f e ∙ q) (λ e. r (omega arith) m)
+
+  first-holds : (k j : ℕ) → firstFrom f k j < j + k → f (firstFrom f k j) ≡ true
+  first-holds zero j h = absurd (omega arith)
+  first-holds (suc k) j h = go (f j) refl (first-holds k (suc j)) h
+    where
+      go : (b : Bool) → f j ≡ b → (firstFrom f k (suc j) < suc j + k → f (firstFrom f k (suc j)) ≡ true) →
+          cond b j (firstFrom f k (suc j)) < j + suc k → f (cond b j (firstFrom f k (suc j))) ≡ true
+      go true q r m = q
+      go false q r m = r (omega arith)
+
+  pub first-below-le : (n : ℕ) → firstBelow n f ≤ n
+  first-below-le n = let h = first-le n 0 in omega arith
+
+  pub first-below-before : (n i : ℕ) → i < firstBelow n f → f i ≡ false
+  first-below-before n i h = first-before n 0 i (omega arith) h
+
+  pub first-below-holds : (n : ℕ) → firstBelow n f < n → f (firstBelow n f) ≡ true
+  first-below-holds n h = first-holds n 0 (omega arith)
+
+-- ---- counting
+
+abbrev bit : Bool → ℕ
+bit true = 1
+bit false = 0
+
+-- how many indices below n pass the test
+pub below : (ℕ → Bool) → ℕ → ℕ
+below f zero = 0
+below f (suc n) = bit (f n) + below f n
+
+bit-le : (a b : Bool) → (a ≡ true → b ≡ true) → bit a ≤ bit b
+bit-le true true h = omega arith
+bit-le true false h = absurd (true≢false (sym (h refl)))
+bit-le false b h = omega arith
+
+pub below-none : (n : ℕ) (f : ℕ → Bool) → ((i : ℕ) → f i ≡ false) → below f n ≡ 0
+unfolding below
+below-none zero f h = refl
+below-none (suc n) f h = ap (λ b. bit b + below f n) (h n) ∙ (let r = below-none n f h in omega arith)
+
+pub below-le : (n : ℕ) (f : ℕ → Bool) → below f n ≤ n
+unfolding below
+below-le zero f = omega arith
+below-le (suc n) f = let r = below-le n f in let b = bit-le (f n) true (λ q. refl) in omega arith
+
+module _ (f g : ℕ → Bool) where
+  pub below-grows : (n : ℕ) → ((i : ℕ) → i < n → f i ≡ true → g i ≡ true) → below f n ≤ below g n
+  unfolding below
+  below-grows zero h = omega arith
+  below-grows (suc n) h =
+      let r = below-grows n (λ i l. h i (omega arith)) in
+      let b = bit-le (f n) (g n) (h n (omega arith)) in
+      omega arith
+
+  pub below-less : (n j : ℕ) → ((i : ℕ) → i < n → f i ≡ true → g i ≡ true) → j < n → f j ≡ false → g j ≡ true → below f n < below g n
+  unfolding below
+  below-less zero j h l p q = absurd (not-suc-le-zero l)
+  below-less (suc n) j h l p q =
+      by-cases (ℕ-discrete j n)
+      (λ e.
+      let r = below-grows n (λ i m. h i (omega arith)) in
+      let a : bit (f n) ≡ 0 = ap bit (ap f (sym e) ∙ p) in
+      let b : bit (g n) ≡ 1 = ap bit (ap g (sym e) ∙ q) in
+      omega arith)
+      (λ e.
+      let r = below-less n j (λ i m. h i (omega arith)) (omega arith) p q in
+      let b = bit-le (f n) (g n) (h n (omega arith)) in
+      omega arith)
+
+-- where one index fails the test, fewer than n pass it
+pub below-missing : (n j : ℕ) (f : ℕ → Bool) → j < n → f j ≡ false → below f n < n
+below-missing n j f l p =
+    let r = below-less f (λ i. true) n j (λ i m q. refl) l p refl in
+    let s = below-le n (λ i. true) in
+    omega arith

@@ -1,0 +1,6 @@
+-- What an atomic snapshot memory answers and owes, whatever the method. Read in this order.
+pub mod Refusals
+pub mod Tally
+pub mod Demand
+pub mod Lists
+pub mod Verdict

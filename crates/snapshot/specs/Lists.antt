@@ -1,0 +1,32 @@
+-- The few shapes of lists that the methods are written in.
+use Prim.Native.Nat.{ℕ, zero, suc}
+use mathlib.Core.Bool.{Bool, false, cond, _||_}
+use mathlib.Core.List.{List, [], _∷_, _++_}
+use lib.ListN.{take, drop}
+
+-- the first n places of a over those of b; the places of b past n stay
+abbrev pub over : {A : Type 0} → ℕ → List A → List A → List A
+over n a b = take n a ++ drop n b
+
+-- f at each of the k indices from j on
+abbrev pub eachFrom : {A : Type 0} → (ℕ → A) → ℕ → ℕ → List A
+eachFrom f zero j = []
+eachFrom f (suc k) j = f j ∷ eachFrom f k (suc j)
+
+-- f 0, f 1, .. up to n of them
+abbrev pub each : {A : Type 0} → ℕ → (ℕ → A) → List A
+each n f = eachFrom f n 0
+
+-- the first of the k indices from j on at which f holds, or j + k where it holds at none
+abbrev pub firstFrom : (ℕ → Bool) → ℕ → ℕ → ℕ
+firstFrom f zero j = j
+firstFrom f (suc k) j = cond (f j) j (firstFrom f k (suc j))
+
+-- the first index below n at which f holds, or n
+abbrev pub firstBelow : ℕ → (ℕ → Bool) → ℕ
+firstBelow n f = firstFrom f n 0
+
+-- whether some element passes the test
+abbrev pub someOf : {A : Type 0} → (A → Bool) → List A → Bool
+someOf f [] = false
+someOf f (x ∷ xs) = f x || someOf f xs

@@ -1,0 +1,47 @@
+// What every method of the register answers, and the papers' number of each refusal.
+ghost use mathlib.Core.Path.{_≡_};
+ghost use Rattle.snapshot.specs.Refusals.{numberOf};
+
+// Why an item is refused. Document 01 knows these by their numbers.
+pub enum Refusal {
+    CountRange,
+    ProcessRange,
+    Busy,
+    Idle,
+    DayFull,
+    LentSize,
+    CutShort,
+    UnknownKind,
+    WrongLength,
+    OpenState,
+    CannotArise,
+}
+
+// The answer to an item. The words of a page lie in the lent page list.
+pub enum Answer {
+    Refused(Refusal),
+    Opened,
+    Called,
+    Read,
+    Page { lender: u32, at: u32, turns: u32 },
+    Written { turns: u32 },
+}
+
+// The number that document 01 gives to a refusal.
+pub fn number(r: Refusal) -> u32
+    ensures { λ k. ⌜ k ≡ numberOf r ⌝ }
+{
+    match r {
+        Refusal::CountRange => 1,
+        Refusal::ProcessRange => 2,
+        Refusal::Busy => 3,
+        Refusal::Idle => 4,
+        Refusal::DayFull => 5,
+        Refusal::LentSize => 6,
+        Refusal::CutShort => 7,
+        Refusal::UnknownKind => 8,
+        Refusal::WrongLength => 9,
+        Refusal::OpenState => 10,
+        Refusal::CannotArise => 11,
+    }
+}

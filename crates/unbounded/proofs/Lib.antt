@@ -1,0 +1,8 @@
+-- Theorems about Figure 3's method.
+pub mod Marks
+pub mod Places
+pub mod Scans
+pub mod Scanning
+pub mod Machine
+pub mod Deeds
+pub mod Demand3

@@ -1,0 +1,92 @@
+-- Laws of the marks: what `withMoved` and a search that marks leave marked.
+use Prim.Native.Nat.{ℕ, zero, suc, _+_, _≤_, _<_}
+use native.Mathlib.Omega.{arith}
+use native.Mathlib.Decide.{ℕ-discrete, decLt}
+use mathlib.Core.Path.{_≡_, refl, sym, ap, _∙_, subst}
+use mathlib.Core.Logic.{_⊎_, inl, inr, by-cases, _≢_}
+use mathlib.Core.Bool.{Bool, true, false, cond, false≢true}
+use mathlib.Core.List.{List}
+use lib.ListN.{length, getD, set, replicate, length-set, length-replicate}
+use lib.Seq.{getD-set-same, getD-set-other, set-out}
+use Rattle.unbounded.specs.Registers.{isMoved, withMoved, noneMoved}
+use Rattle.unbounded.specs.Turns.{markFrom}
+
+-- ---- one mark
+
+pub length-with-moved : (ms : List Bool) (j : ℕ) → length (withMoved ms j) ≡ length ms
+unfolding withMoved
+length-with-moved ms j = length-set ms j true
+
+pub moved-same : (ms : List Bool) (j : ℕ) → j < length ms → isMoved (withMoved ms j) j ≡ true
+unfolding withMoved isMoved
+moved-same ms j l = getD-set-same ms j true false l
+
+pub moved-other : (ms : List Bool) (i j : ℕ) → i ≢ j → isMoved (withMoved ms j) i ≡ isMoved ms i
+unfolding withMoved isMoved
+moved-other ms i j h = getD-set-other ms j i true false h
+
+moved-out : (ms : List Bool) (j : ℕ) → length ms ≤ j → withMoved ms j ≡ ms
+unfolding withMoved
+moved-out ms j l = set-out ms j true l
+
+pub none-moved : (i : ℕ) → isMoved noneMoved i ≡ false
+unfolding isMoved
+none-moved i = nowhere 8 i
+  where
+    nowhere : (n i : ℕ) → getD (replicate n false) i false ≡ false
+    nowhere zero i = refl
+    nowhere (suc n) zero = refl
+    nowhere (suc n) (suc i) = nowhere n i
+
+-- ---- a search that marks
+
+module _ (f : ℕ → Bool) where
+  pub length-marks : (k j : ℕ) (ms : List Bool) → length (markFrom f k j ms) ≡ length ms
+  length-marks zero j ms = refl
+  length-marks (suc k) j ms = length-marks k (suc j) (cond (f j) (withMoved ms j) ms) ∙ go (f j)
+    where
+      go : (b : Bool) → length (cond b (withMoved ms j) ms) ≡ length ms
+      go true = length-with-moved ms j
+      go false = refl
+
+  step-keeps : (ms : List Bool) (j i : ℕ) (b : Bool) → isMoved ms i ≡ true → isMoved (cond b (withMoved ms j) ms) i ≡ true
+  step-keeps ms j i false h = h
+  step-keeps ms j i true h =
+      by-cases (ℕ-discrete i j)
+      (λ e. by-cases (decLt j (length ms)) (λ l. ap (isMoved (withMoved ms j)) e ∙ moved-same ms j l) (λ l. ap (λ m. isMoved m i) (moved-out ms j (omega arith)) ∙ h))
+      (λ e. moved-other ms i j e ∙ h)
+
+  pub marks-keep : (k j : ℕ) (ms : List Bool) (i : ℕ) → isMoved ms i ≡ true → isMoved (markFrom f k j ms) i ≡ true
+  marks-keep zero j ms i h = h
+  marks-keep (suc k) j ms i h = marks-keep k (suc j) (cond (f j) (withMoved ms j) ms) i (step-keeps ms j i (f j) h)
+
+  pub marks-only : (k j : ℕ) (ms : List Bool) (i : ℕ) → isMoved (markFrom f k j ms) i ≡ true →
+      (isMoved ms i ≡ true) ⊎ (f i ≡ true)
+  marks-only zero j ms i h = inl h
+  marks-only (suc k) j ms i h = later (marks-only k (suc j) (cond (f j) (withMoved ms j) ms) i h)
+    where
+      here : (b : Bool) → f j ≡ b → isMoved (cond b (withMoved ms j) ms) i ≡ true → (isMoved ms i ≡ true) ⊎ (f i ≡ true)
+      here false q g = inl g
+      here true q g =
+          by-cases (ℕ-discrete i j) (λ e. inr (ap f e ∙ q)) (λ e. inl (sym (moved-other ms i j e) ∙ g))
+
+      later : (isMoved (cond (f j) (withMoved ms j) ms) i ≡ true) ⊎ (f i ≡ true) → (isMoved ms i ≡ true) ⊎ (f i ≡ true)
+      later (inl g) = here (f j) refl g
+      later (inr g) = inr g
+
+  pub marks-set : (k j : ℕ) (ms : List Bool) (i : ℕ) → j ≤ i → i < j + k → i < length ms → f i ≡ true →
+      isMoved (markFrom f k j ms) i ≡ true
+  marks-set zero j ms i l m w h = absurd (omega arith)
+  marks-set (suc k) j ms i l m w h =
+      by-cases (ℕ-discrete i j)
+      (λ e. marks-keep k (suc j) (cond (f j) (withMoved ms j) ms) i (now e (f j) (ap f (sym e) ∙ h)))
+      (λ e. marks-set k (suc j) (cond (f j) (withMoved ms j) ms) i (omega arith) (omega arith)
+      (let s = same-length (f j) in omega arith) h)
+    where
+      same-length : (b : Bool) → length (cond b (withMoved ms j) ms) ≡ length ms
+      same-length true = length-with-moved ms j
+      same-length false = refl
+
+      now : i ≡ j → (b : Bool) → b ≡ true → isMoved (cond b (withMoved ms j) ms) i ≡ true
+      now e true q = ap (isMoved (withMoved ms j)) e ∙ moved-same ms j (omega arith)
+      now e false q = absurd (false≢true q)

@@ -1,0 +1,35 @@
+-- Laws of a register laid into a place: up to its first n words of view, the place then holds just that register.
+use Prim.Native.Nat.{ℕ, zero, suc, _+_, _≤_, _<_}
+use native.Mathlib.Omega.{arith}
+use mathlib.Core.Path.{_≡_, refl, sym, ap, _∙_}
+use mathlib.Core.Logic.{_≢_}
+use mathlib.Core.List.{List}
+use lib.ListN.{length, getD, take, set, length-set}
+use lib.Seq.{getD-set-same, getD-set-other}
+use Rattle.snapshot.proofs.Lists.{take-over}
+use Rattle.unbounded.specs.declared.Register.{Register}
+use Rattle.unbounded.specs.Registers.{noRegister, laid, readInto}
+
+-- a register with the first n words of its view
+abbrev pub trimmed : ℕ → Register → Register
+trimmed n r = record { word = r .word; seq = r .seq; view = take n (r .view); at = r .at }
+
+pub trimmed-laid : (n : ℕ) (r old : Register) → length (take n (r .view)) ≡ n → trimmed n (laid n r old) ≡ trimmed n r
+unfolding laid
+trimmed-laid n r old l =
+    ap (λ v. record { word = r .word; seq = r .seq; view = v; at = r .at }) (take-over n (r .view) (old .view) l)
+
+module _ (n : ℕ) (r : Register) (i : ℕ) (rs : List Register) where
+  pub length-read-into : length (readInto n r i rs) ≡ length rs
+  unfolding readInto
+  length-read-into = length-set rs i (laid n r (getD rs i noRegister))
+
+  pub read-into-same : i < length rs → length (take n (r .view)) ≡ n → trimmed n (getD (readInto n r i rs) i noRegister) ≡ trimmed n r
+  unfolding readInto
+  read-into-same l m =
+      ap (trimmed n) (getD-set-same rs i (laid n r (getD rs i noRegister)) noRegister l)
+      ∙ trimmed-laid n r (getD rs i noRegister) m
+
+  pub read-into-other : (k : ℕ) → k ≢ i → getD (readInto n r i rs) k noRegister ≡ getD rs k noRegister
+  unfolding readInto
+  read-into-other k h = getD-set-other rs i k (laid n r (getD rs i noRegister)) noRegister h
