@@ -2,5 +2,6 @@
 pub mod Refusals
 pub mod Tally
 pub mod Demand
+pub mod Replies
 pub mod Lists
 pub mod Verdict

@@ -81,7 +81,7 @@ module _ (n : ℕ) (o : Order) (P : Permutes n o) (z : 0 < n) (eight : n ≤ 8) 
 
   module _ (H : ℕ → State) (e : ℕ) (open-call : ℕ → Option Call) (A : Past n o H e) (number : H e .day .event ≡ e)
       (T : (i : ℕ) → i < n → tied n o H e i (open-call i)) where
-    not-overdue : (i : ℕ) → i < n → (k : Task) (c : Option Call) → Tie n o H e i (processAt H i e) k c → overdue n k ≡ false
+    not-overdue : (i : ℕ) → i < n → (k : Task) (c : Option Call) → Tie n o H e i (processAt H i e) k c → overdue (mostReads n) k ≡ false
     not-overdue i b Idle c t = refl
     not-overdue i b (Scan k) none t = absurd t
     not-overdue i b (Scan k) (some c) t = lt-leb (mostReads n) k (scanning-patient n o (registerAt n H) (pageAt H) b (A .laws) (t .2))
@@ -90,7 +90,7 @@ module _ (n : ℕ) (o : Order) (P : Permutes n o) (z : 0 < n) (eight : n ≤ 8) 
     not-overdue i b (Ready w at k) none t = absurd t
     not-overdue i b (Ready w at k) (some c) t = le-ltb (mostReads n) k (t .2 .few)
 
-    sound : (i : ℕ) → i < n → unsound n e (processAt H i e) ≡ false
+    sound : (i : ℕ) → i < n → unsound (mostReads n) e (processAt H i e) ≡ false
     unfolding unsound
     sound i b =
         let s = A .seqs i b in
@@ -106,8 +106,8 @@ module _ (n : ℕ) (o : Order) (P : Permutes n o) (z : 0 < n) (eight : n ≤ 8) 
         let s = A .sizes e (omega arith) in
         ap₂ _||_ (le-ltb 8 (H e .day .count) (omega arith))
         (ap₂ _||_ (le-ltb 65535 (H e .day .event) (omega arith))
-        (some-of-none (unsound (H e .day .count) (H e .day .event)) (H e .table) noProcess
-        (λ i b. ap₂ (λ k t. unsound k t (processAt H i e)) c number ∙ sound i (omega arith))))
+        (some-of-none (unsound (mostReads (H e .day .count)) (H e .day .event)) (H e .table) noProcess
+        (λ i b. ap₂ (λ k t. unsound (mostReads k) t (processAt H i e)) c number ∙ sound i (omega arith))))
 
     -- ---- refusals
 

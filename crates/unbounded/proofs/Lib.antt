@@ -1,4 +1,5 @@
 -- Theorems about Figure 3's method.
+pub mod Limits
 pub mod Marks
 pub mod Places
 pub mod Scans
@@ -6,3 +7,4 @@ pub mod Scanning
 pub mod Machine
 pub mod Deeds
 pub mod Demand3
+pub mod MarkedDays

@@ -1,6 +1,6 @@
 -- The day: openings, calls and turns on any day, table and page list, with their refusals (document 01).
 use Prim.Native.Nat.{ℕ, _+_, _-_, _*_}
-use mathlib.Core.Bool.{Bool, true, false, not, _||_}
+use mathlib.Core.Bool.{Bool, true, false, cond, not, _||_}
 use mathlib.Core.List.{List, [], _∷_, map}
 use mathlib.Core.Option.{Option, none, some}
 use lib.ListN.{length, getD, set}
@@ -39,9 +39,17 @@ processOf ps d = getD ps (d - 1) noProcess
 
 -- ---- limits
 
+-- n is outside low to high
+abbrev pub outside : ℕ → ℕ → ℕ → Bool
+outside low high n = ltb n low || ltb high n
+
 -- "These are 2n²": the most reads of a scan
 unfoldable pub mostReads : ℕ → ℕ
 mostReads n = 2 * (n * n)
+
+-- the same for 1 to 8 processes, and 0 for any other number
+abbrev pub readsUpTo8 : ℕ → ℕ
+readsUpTo8 n = cond (outside 1 8 n) 0 (mostReads n)
 
 -- "An entry takes one turn more"
 abbrev pub mostTurns : ℕ → Job → ℕ
@@ -54,20 +62,20 @@ isFull e = eqb e 65535
 
 -- ---- a day that cannot have arisen (refusal 11)
 
--- "a task being read has had more than 2n²−1 turns, or an entry ready to write more than 2n²"
+-- "a task being read has had more than 2n²−1 turns, or an entry ready to write more than 2n²", most being 2n²
 abbrev pub overdue : ℕ → Task → Bool
-overdue n Idle = false
-overdue n (Scan t) = leb (mostReads n) t
-overdue n (Update w t) = leb (mostReads n) t
-overdue n (Ready w at t) = ltb (mostReads n) t
+overdue most Idle = false
+overdue most (Scan t) = leb most t
+overdue most (Update w t) = leb most t
+overdue most (Ready w at t) = ltb most t
 
 -- "the desk's own row has a seq or at above the event number", or its task is overdue
 unfoldable pub unsound : ℕ → ℕ → Process → Bool
-unsound n e p = ltb e (p .register .seq) || (ltb e (p .register .at) || overdue n (p .task))
+unsound most e p = ltb e (p .register .seq) || (ltb e (p .register .at) || overdue most (p .task))
 
 -- "if the desk count is above 8, the event number above 65,535, or if in any of the n records .."
 unfoldable pub cannotArise : Day → List Process → Bool
-cannotArise d ps = ltb 8 (d .count) || (ltb 65535 (d .event) || someOf (unsound (d .count) (d .event)) ps)
+cannotArise d ps = ltb 8 (d .count) || (ltb 65535 (d .event) || someOf (unsound (mostReads (d .count)) (d .event)) ps)
 
 -- ---- refusals, in the order of document 01
 
@@ -76,10 +84,6 @@ isIdle Idle = true
 isIdle (Scan t) = false
 isIdle (Update w t) = false
 isIdle (Ready w at t) = false
-
--- n is outside low to high
-abbrev pub outside : ℕ → ℕ → ℕ → Bool
-outside low high n = ltb n low || ltb high n
 
 -- "Order for opening: 10, 1, 6"
 abbrev pub openingCauses : State → ℕ → List Cause

@@ -3,3 +3,4 @@ pub mod Registers
 pub mod Processes
 pub mod Turns
 pub mod Days
+pub mod MarkedDays

@@ -1,0 +1,107 @@
+-- The marked days of document 01, "Days to check by hand", as one list: what is asked of a blank day, and the replies.
+use Prim.Native.Nat.{ℕ, _+_, _-_}
+use mathlib.Core.List.{List, [], _∷_, _++_}
+use lib.ListN.{replicate}
+use Rattle.snapshot.specs.Replies.{Reply, refused, opened, called, read, page, written, replies}
+use Rattle.unbounded.specs.Registers.{ascending}
+use Rattle.unbounded.specs.Processes.{zeroProcess}
+use Rattle.unbounded.specs.Days.{State, Item, openFor, updateCall, scanCall, turnOf, method}
+
+-- a day for n processes: a blank day with a table of n records is asked these items, and replies so
+pub record MarkedDay : Type 0 where
+  pub count : ℕ
+  pub items : List Item
+  pub expected : List (Reply ℕ)
+
+-- "A blank day has both 0"
+abbrev pub blank : ℕ → State
+blank n = record { day = record { count = 0; event = 0 }; table = replicate n zeroProcess }
+
+-- what the definitions reply on a day
+abbrev pub played : MarkedDay → List (Reply ℕ)
+played d = replies (method ascending (d .count)) (blank (d .count)) (d .items)
+
+-- k turns of process d, each with a page list of n words
+abbrev turns : (n k d : ℕ) → List Item
+turns n k d = replicate k (turnOf d (replicate n 9))
+
+abbrev reads : ℕ → List (Reply ℕ)
+reads k = replicate k read
+
+-- case A
+abbrev dayA : MarkedDay
+dayA =
+    record {
+      count = 1;
+      items = openFor 1 ∷ updateCall 1 7 ∷ turns 1 3 1 ++ scanCall 1 ∷ turns 1 3 1;
+      expected = opened ∷ called ∷ reads 2 ++ written 3 ∷ called ∷ read ∷ page 0 6 2 (7 ∷ []) ∷ refused 4 ∷ [];
+    }
+
+-- B and C to event 11: process 2 writes w between the two collects of process 1
+abbrev twoMoved : ℕ → List Item
+twoMoved w = openFor 2 ∷ scanCall 1 ∷ turns 2 2 1 ++ updateCall 2 w ∷ turns 2 5 2 ++ turns 2 2 1
+
+abbrev twoMovedReplies : List (Reply ℕ)
+twoMovedReplies = opened ∷ called ∷ reads 2 ++ called ∷ reads 4 ++ written 5 ∷ reads 2
+
+-- case B: row 2 holds 9 by event 21, whose page is borrowed from process 2
+abbrev dayB : MarkedDay
+dayB =
+    record {
+      count = 2;
+      items = twoMoved 7 ++ turns 2 2 1 ++ updateCall 2 9 ∷ turns 2 5 2 ++ turns 2 2 1;
+      expected = twoMovedReplies ++ reads 2 ++ called ∷ reads 4 ++ written 5 ∷ read ∷ page 2 16 8 (0 ∷ 7 ∷ []) ∷ [];
+    }
+
+-- case C: the word never changed; the seq did
+abbrev dayC : MarkedDay
+dayC =
+    record {
+      count = 2;
+      items = twoMoved 0 ++ turns 2 4 1;
+      expected = twoMovedReplies ++ reads 3 ++ page 0 13 8 (0 ∷ 0 ∷ []) ∷ [];
+    }
+
+-- case D
+abbrev dayD : MarkedDay
+dayD =
+    record {
+      count = 3;
+      items = openFor 3 ∷ scanCall 3 ∷ turns 3 1 3 ++ updateCall 1 5 ∷ turns 3 7 1 ++ updateCall 2 6 ∷ turns 3 7 2 ++ turns 3 11 3;
+      expected =
+          opened ∷ called ∷ read ∷ called ∷ reads 6 ++ written 7 ∷ called ∷ reads 6 ++ written 7 ∷ reads 10
+          ++ page 0 26 12 (5 ∷ 6 ∷ 0 ∷ []) ∷ [];
+    }
+
+-- case E
+abbrev dayE : MarkedDay
+dayE = record { count = 8; items = openFor 8 ∷ []; expected = opened ∷ [] }
+
+-- case F, for a count asked for
+abbrev dayF : ℕ → MarkedDay
+dayF k = record { count = k; items = openFor k ∷ []; expected = refused 1 ∷ [] }
+
+-- case G, for n processes
+abbrev dayG : ℕ → MarkedDay
+dayG n = record { count = n; items = openFor n ∷ turns n 1 0 ++ turns n 1 (n + 1); expected = opened ∷ refused 2 ∷ refused 2 ∷ [] }
+
+-- case H, for n processes
+abbrev dayH : ℕ → MarkedDay
+dayH n =
+    record {
+      count = n;
+      items = openFor n ∷ scanCall 1 ∷ turns n 1 1 ++ turns (n - 1) 1 1;
+      expected = opened ∷ called ∷ read ∷ refused 6 ∷ [];
+    }
+
+-- case J: the task underway ends as if the second call had not come
+abbrev dayJ : MarkedDay
+dayJ =
+    record {
+      count = 1;
+      items = openFor 1 ∷ scanCall 1 ∷ turns 1 1 1 ++ scanCall 1 ∷ updateCall 1 5 ∷ turns 1 1 1;
+      expected = opened ∷ called ∷ read ∷ refused 3 ∷ refused 3 ∷ page 0 2 2 (0 ∷ []) ∷ [];
+    }
+
+unfoldable pub markedDays : List MarkedDay
+markedDays = dayA ∷ dayB ∷ dayC ∷ dayD ∷ dayE ∷ dayF 9 ∷ dayF 0 ∷ dayG 2 ∷ dayG 8 ∷ dayH 2 ∷ dayH 8 ∷ dayJ ∷ []
