@@ -64,6 +64,11 @@ map-set f [] i a = refl
 map-set f (x ∷ l) zero a = refl
 map-set {B = B} f (x ∷ l) (suc i) a = ap {B = List B} (λ r. f x ∷ r) (map-set f l i a)
 
+pub getD-map-below : {A B : Type 0} (f : A → B) (l : List A) (i : ℕ) (a : A) (b : B) → i < length l → getD (map f l) i b ≡ f (getD l i a)
+getD-map-below f [] i a b h = absurd (not-suc-le-zero h)
+getD-map-below f (x ∷ l) zero a b h = refl
+getD-map-below f (x ∷ l) (suc i) a b h = getD-map-below f l i a b (omega arith)
+
 pub map-replicate : {A B : Type 0} (f : A → B) (n : ℕ) (a : A) → map f (replicate n a) ≡ replicate n (f a)
 map-replicate f zero a = refl
 map-replicate {B = B} f (suc n) a = ap {B = List B} (λ r. f a ∷ r) (map-replicate f n a)

@@ -1,6 +1,6 @@
 -- The few shapes of lists that the methods are written in.
 use Prim.Native.Nat.{ℕ, zero, suc}
-use mathlib.Core.Bool.{Bool, false, cond, _||_}
+use mathlib.Core.Bool.{Bool, true, false, cond, _&&_, _||_}
 use mathlib.Core.List.{List, [], _∷_, _++_}
 use lib.ListN.{take, drop}
 
@@ -25,6 +25,11 @@ firstFrom f (suc k) j = cond (f j) j (firstFrom f k (suc j))
 -- the first index below n at which f holds, or n
 abbrev pub firstBelow : ℕ → (ℕ → Bool) → ℕ
 firstBelow n f = firstFrom f n 0
+
+-- whether f holds at each of the k indices from j on
+abbrev pub everyFrom : (ℕ → Bool) → ℕ → ℕ → Bool
+everyFrom f zero j = true
+everyFrom f (suc k) j = f j && everyFrom f k (suc j)
 
 -- whether some element passes the test
 abbrev pub someOf : {A : Type 0} → (A → Bool) → List A → Bool

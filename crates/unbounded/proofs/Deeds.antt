@@ -26,58 +26,11 @@ use Rattle.unbounded.specs.Registers.{noRegister, zeroRegister, value, O
 use Rattle.unbounded.specs.Processes.{noProcess, begin}
 use Rattle.unbounded.specs.Turns.{position, placeAt, reads, firstAfter, secondAfter, endAfter, decision, marksAfter, passed, Found, found, afterRead, foundBy, scanTurn, updateTurn, written, withRegister, turnedBy}
 use Rattle.unbounded.specs.Days.{State, Item, method, mostReads, advance, isIdle, registerRead}
-use Rattle.unbounded.proofs.Marks.{length-marks}
 use Rattle.unbounded.proofs.Places.{trimmed, trimmed-laid, length-read-into}
-use Rattle.unbounded.proofs.Scans.{Permutes, Laws, place-below}
+use Rattle.unbounded.proofs.Scans.{Permutes, Laws}
+use Rattle.unbounded.proofs.Reading.{place-below, Sized, sized-begin, sized-read}
 use Rattle.unbounded.proofs.Scanning.{Scanning, Stepped, scanning-starts, scanning-reads, scanning-patient, position-is}
-use Rattle.unbounded.proofs.Machine.{processAt, registerAt, pageAt, Past, Owns, Scans, Keeps, Tie, Sized, Ties, own-process, others-tied, registers-stay, page-stays, past-stays, page-writes, past-writes}
-
--- ---- sizes
-
-length-cleared : (n : ℕ) (rs : List Register) → n ≤ length rs → length (cleared n rs) ≡ length rs
-unfolding cleared
-length-cleared n rs l =
-    length-over n (map (laid n zeroRegister) rs) rs
-    (length-take-le n (map (laid n zeroRegister) rs) (let q = length-map rs (laid n zeroRegister) in omega arith)) l
-
-length-first : (n p : ℕ) (r : Register) (a : List Register) → length (firstAfter n p r a) ≡ length a
-unfolding firstAfter
-length-first n p r a = go (lib.Dec.ltb p n)
-  where
-    go : (b : Bool) → length (cond b (readInto n r (placeAt n p) a) a) ≡ length a
-    go true = length-read-into n r (placeAt n p) a
-    go false = refl
-
-length-second : (n p : ℕ) (r : Register) (c : List Register) → length (secondAfter n p r c) ≡ length c
-unfolding secondAfter
-length-second n p r c = go (lib.Dec.ltb p n)
-  where
-    go : (b : Bool) → length (cond b c (readInto n r (placeAt n p) c)) ≡ length c
-    go true = refl
-    go false = length-read-into n r (placeAt n p) c
-
-sized-begin : (n : ℕ) (k : Task) (p : Process) → n ≤ 8 → Sized p → Sized (begin n k p)
-unfolding begin
-sized-begin n k p b S =
-    let f = S .firsts in
-    let s = S .seconds in
-    let qf = length-cleared n (p .first) (omega arith) in
-    let qs = length-cleared n (p .second) (omega arith) in
-    record { firsts = omega arith; seconds = omega arith; marks = omega (arith, length-replicate 8 false) }
-
-sized-read : (o : Order) (n now pos : ℕ) (r : Register) (p : Process) (k : Task) (v : List ℕ) → Sized p →
-    Sized (afterRead o n now pos r p k v)
-unfolding afterRead marksAfter
-sized-read o n now pos r p k v S =
-    let f = S .firsts in
-    let s = S .seconds in
-    let m = S .marks in
-    let a = firstAfter n pos r (p .first) in
-    let c = secondAfter n pos r (p .second) in
-    let qf = length-first n pos r (p .first) in
-    let qs = length-second n pos r (p .second) in
-    let qm = length-marks (differs o a c) (passed n (decision o n pos a c (p .moved))) 0 (p .moved) in
-    record { firsts = omega arith; seconds = omega arith; marks = omega arith }
+use Rattle.unbounded.proofs.Machine.{processAt, registerAt, pageAt, Past, Owns, Scans, Keeps, Tie, Ties, own-process, others-tied, registers-stay, page-stays, past-stays, page-writes, past-writes}
 
 -- ---- the deeds of process d, from 1, in event e + 1
 

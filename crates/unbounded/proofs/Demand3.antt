@@ -33,7 +33,7 @@ use Rattle.unbounded.specs.Turns.{reads, turned, turnedBy}
 use Rattle.unbounded.specs.Days.{State, Item, openFor, updateCall, scanCall, turnOf, processOf, mostReads, mostTurns, isFull, overdue, unsound, cannotArise, isIdle, outside, openingCauses, causes, callCauses, turnCauses, refusal, advance, openedBy, calledBy, registerRead, turnBy, accept, sees, method, openedFor}
 use Rattle.unbounded.proofs.Scans.{Permutes}
 use Rattle.unbounded.proofs.Scanning.{scanning-patient}
-use Rattle.unbounded.proofs.Machine.{processAt, registerAt, pageAt, Past, page-shows, Tie, Ties, Sized, next-event, others-tied}
+use Rattle.unbounded.proofs.Machine.{processAt, registerAt, pageAt, Past, page-shows, Tie, Ties, next-event, others-tied}
 use Rattle.unbounded.proofs.Deeds.{tied, Deed, scan-call-deed, update-call-deed, turn-deed}
 
 -- ---- tests

@@ -2,9 +2,12 @@
 pub mod Limits
 pub mod Marks
 pub mod Places
+pub mod Moved
+pub mod Reading
 pub mod Scans
 pub mod Scanning
 pub mod Machine
 pub mod Deeds
 pub mod Demand3
 pub mod MarkedDays
+pub mod Figure3

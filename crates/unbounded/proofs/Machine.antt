@@ -26,6 +26,7 @@ use Rattle.unbounded.specs.Registers.{noRegister, value, Order, isMoved}
 use Rattle.unbounded.specs.Processes.{noProcess}
 use Rattle.unbounded.specs.Days.{State, mostReads, advance}
 use Rattle.unbounded.proofs.Places.{trimmed}
+use Rattle.unbounded.proofs.Reading.{Sized}
 use Rattle.unbounded.proofs.Scans.{Laws}
 use Rattle.unbounded.proofs.Scanning.{Scanning, scanning-waits}
 
@@ -39,12 +40,6 @@ registerAt n H j t = trimmed n (processAt H j t .register)
 
 abbrev pub pageAt : (ℕ → State) → ℕ → List ℕ
 pageAt H t = map (λ p. value (p .register)) (H t .table)
-
--- the arrays of a record have their eight places
-pub record Sized (p : Process) : Type 0 where
-  pub firsts : 8 ≤ length (p .first)
-  pub seconds : 8 ≤ length (p .second)
-  pub marks : 8 ≤ length (p .moved)
 
 module _ (n : ℕ) (o : Order) (H : ℕ → State) where
   pub record Past (e : ℕ) : Type 0 where

@@ -20,8 +20,10 @@ use Rattle.unbounded.specs.Registers.{noRegister, viewed, Order, collect
 use Rattle.unbounded.specs.Turns.{position, placeAt, firstAfter, secondAfter, endAfter, decision, markFrom, passed, marksAfter, Found, found, foundBy}
 use Rattle.unbounded.specs.Days.{mostReads}
 use Rattle.unbounded.proofs.Places.{trimmed}
+use Rattle.unbounded.proofs.Moved.{lends-differs, lends-moved, unmarked}
+use Rattle.unbounded.proofs.Reading.{decision-waits, decision-falls}
 use Rattle.unbounded.proofs.Marks.{none-moved, length-marks, marks-keep, marks-only, marks-set}
-use Rattle.unbounded.proofs.Scans.{Permutes, Laws, Collecting, Collected, Reads, collecting-starts, collecting-waits, collecting-reads, clean-good, lent-good, differs-written, lends-differs, lends-moved, unmarked}
+use Rattle.unbounded.proofs.Scans.{Permutes, Laws, Collecting, Collected, Reads, collecting-starts, collecting-waits, collecting-reads, clean-good, lent-good, differs-written}
 
 bool-cases : {C : Type 0} (b : Bool) → (b ≡ true → C) → (b ≡ false → C) → C
 bool-cases true f g = f refl
@@ -106,15 +108,6 @@ module _ (n : ℕ) (o : Order) (R : ℕ → ℕ → Register) (page : ℕ → Li
 
   -- ---- its own reading turn, numbered e + 1, in which no register is written
 
-  decision-waits : (p : ℕ) (a c : List Register) (ms : List Bool) → p + 1 ≢ 2 * n → decision o n p a c ms ≡ none
-  unfolding decision
-  decision-waits p a c ms h = ap (λ b. cond b (some (verdict n (differs o a c) (lends o a c ms))) none) (ne-eqb (p + 1) (2 * n) h)
-
-  decision-falls : (p : ℕ) (a c : List Register) (ms : List Bool) → p + 1 ≡ 2 * n →
-      decision o n p a c ms ≡ some (verdict n (differs o a c) (lends o a c ms))
-  unfolding decision
-  decision-falls p a c ms h = ap (λ b. cond b (some (verdict n (differs o a c) (lends o a c ms))) none) (eq-eqb (p + 1) (2 * n) h)
-
   -- with the collects and marks that the turn leaves: the scan after it, or the page that it found
   abbrev pub Stepped : (i s : ℕ) (a c : List Register) (end : ℕ) (ms : List Bool) (t e : ℕ) → Option Verdict → Type 0
   Stepped i s a c end ms t e v =
@@ -193,7 +186,7 @@ module _ (n : ℕ) (o : Order) (R : ℕ → ℕ → Register) (page : ℕ → Li
         go : Reads n o R page (S .begun) e a c end r (S .pos) → Stepped i s a′ c′ end′ ms t e (decision o n (S .pos) a′ c′ ms)
         go (inl w) =
             let l = w .0 in
-            subst (λ v. Stepped i s a′ c′ end′ ms t e v) (sym (decision-waits (S .pos) a′ c′ ms (λ q. omega arith)))
+            subst (λ v. Stepped i s a′ c′ end′ ms t e v) (sym (decision-waits n o (S .pos) a′ c′ ms (λ q. omega arith)))
             (inl (
               refl,
               record {
@@ -211,5 +204,5 @@ module _ (n : ℕ) (o : Order) (R : ℕ → ℕ → Register) (page : ℕ → Li
               },
             ))
         go (inr w) =
-            subst (λ v. Stepped i s a′ c′ end′ ms t e v) (sym (decision-falls (S .pos) a′ c′ ms (w .0)))
+            subst (λ v. Stepped i s a′ c′ end′ ms t e v) (sym (decision-falls n o (S .pos) a′ c′ ms (w .0)))
             (ended-by (w .0) (w .1) (verdict n (differs o a′ c′) (lends o a′ c′ ms)) (verdict-ends n (differs o a′ c′) (lends o a′ c′ ms)))

@@ -18,7 +18,8 @@ use Rattle.unbounded.specs.declared.Register.{Register}
 use Rattle.unbounded.specs.Registers.{noRegister, value, viewed, Order, collectedAt, shown, differs, lends, isMoved, readInto}
 use Rattle.unbounded.specs.Turns.{position, placeAt, firstAfter, secondAfter, endAfter, markFrom}
 use Rattle.unbounded.proofs.Places.{trimmed, length-read-into, read-into-same, read-into-other}
-use Rattle.unbounded.proofs.Marks.{marks-only}
+use Rattle.unbounded.proofs.Moved.{differs-false, differs-true}
+use Rattle.unbounded.proofs.Reading.{place-first, place-second, first-reads, first-waits, second-reads, second-waits, end-reads, end-waits}
 
 -- an order of reading n registers: a permutation of the first n numbers, with its inverse
 pub record Permutes (n : ℕ) (o : Order) : Type 0 where
@@ -26,87 +27,6 @@ pub record Permutes (n : ℕ) (o : Order) : Type 0 where
   pub place-below : (j : ℕ) → j < n → o .place j < n
   pub row-place : (j : ℕ) → j < n → o .row (o .place j) ≡ j
   pub place-row : (p : ℕ) → p < n → o .place (o .row p) ≡ p
-
--- ---- tests
-
-pub differs-false : (o : Order) (a b : List Register) (j : ℕ) → differs o a b j ≡ false → collectedAt o a j .seq ≡ collectedAt o b j .seq
-unfolding differs
-differs-false o a b j h = go (eqb (collectedAt o a j .seq) (collectedAt o b j .seq)) refl h
-  where
-    go : (t : Bool) → eqb (collectedAt o a j .seq) (collectedAt o b j .seq) ≡ t → not t ≡ false → collectedAt o a j .seq ≡ collectedAt o b j .seq
-    go true q g = eqb-true (collectedAt o a j .seq) (collectedAt o b j .seq) q
-    go false q g = absurd (true≢false g)
-
-differs-true : (o : Order) (a b : List Register) (j : ℕ) → differs o a b j ≡ true → collectedAt o a j .seq ≢ collectedAt o b j .seq
-unfolding differs
-differs-true o a b j h e = false≢true (sym (ap not (eq-eqb (collectedAt o a j .seq) (collectedAt o b j .seq) e)) ∙ h)
-
-and-left : (a b : Bool) → (a && b) ≡ true → a ≡ true
-and-left true b h = refl
-and-left false b h = h
-
-and-right : (a b : Bool) → (a && b) ≡ true → b ≡ true
-and-right true b h = h
-and-right false b h = absurd (false≢true h)
-
-pub lends-differs : (o : Order) (a b : List Register) (ms : List Bool) (j : ℕ) → lends o a b ms j ≡ true → differs o a b j ≡ true
-unfolding lends
-lends-differs o a b ms j h = and-left (differs o a b j) (isMoved ms j) h
-
-pub lends-moved : (o : Order) (a b : List Register) (ms : List Bool) (j : ℕ) → lends o a b ms j ≡ true → isMoved ms j ≡ true
-unfolding lends
-lends-moved o a b ms j h = and-right (differs o a b j) (isMoved ms j) h
-
--- who differs and does not lend is not marked yet
-pub unmarked : (o : Order) (a b : List Register) (ms : List Bool) (j : ℕ) → differs o a b j ≡ true → lends o a b ms j ≡ false → isMoved ms j ≡ false
-unfolding lends
-unmarked o a b ms j d l = sym (ap (λ t. t && isMoved ms j) d) ∙ l
-
--- ---- where a read goes
-
-module _ (n : ℕ) (r : Register) where
-  place-first : (p : ℕ) → p < n → placeAt n p ≡ p
-  unfolding placeAt
-  place-first p l = ap (λ t. cond t p (p - n)) (lt-ltb p n l)
-
-  place-second : (q : ℕ) → placeAt n (n + q) ≡ q
-  unfolding placeAt
-  place-second q = ap (λ t. cond t (n + q) (n + q - n)) (le-ltb (n + q) n (omega arith)) ∙ omega arith
-
-  pub place-below : (p : ℕ) → p < 2 * n → placeAt n p < n
-  unfolding placeAt
-  place-below p l = go (ltb p n) refl
-    where
-      go : (b : Bool) → ltb p n ≡ b → cond b p (p - n) < n
-      go true q = ltb-true p n q
-      go false q = let g = ltb-false p n q in omega arith
-
-  first-reads : (p : ℕ) (a : List Register) → p < n → firstAfter n p r a ≡ readInto n r p a
-  unfolding firstAfter
-  first-reads p a l =
-      ap (λ t. cond t (readInto n r (placeAt n p) a) a) (lt-ltb p n l) ∙ ap (λ i. readInto n r i a) (place-first p l)
-
-  first-waits : (p : ℕ) (a : List Register) → n ≤ p → firstAfter n p r a ≡ a
-  unfolding firstAfter
-  first-waits p a l = ap (λ t. cond t (readInto n r (placeAt n p) a) a) (le-ltb p n l)
-
-  second-waits : (p : ℕ) (c : List Register) → p < n → secondAfter n p r c ≡ c
-  unfolding secondAfter
-  second-waits p c l = ap (λ t. cond t c (readInto n r (placeAt n p) c)) (lt-ltb p n l)
-
-  second-reads : (q : ℕ) (c : List Register) → secondAfter n (n + q) r c ≡ readInto n r q c
-  unfolding secondAfter
-  second-reads q c =
-      ap (λ t. cond t c (readInto n r (placeAt n (n + q)) c)) (le-ltb (n + q) n (omega arith))
-      ∙ ap (λ i. readInto n r i c) (place-second q)
-
-  end-waits : (p now end : ℕ) → p + 1 ≢ n → endAfter n p now end ≡ end
-  unfolding endAfter
-  end-waits p now end h = ap (λ t. cond t now end) (ne-eqb (p + 1) n h)
-
-  end-reads : (p now end : ℕ) → p + 1 ≡ n → endAfter n p now end ≡ now
-  unfolding endAfter
-  end-reads p now end h = ap (λ t. cond t now end) (eq-eqb (p + 1) n h)
 
 module _ (n : ℕ) (o : Order) (R : ℕ → ℕ → Register) (page : ℕ → List ℕ) where
   -- ---- the laws of the history up to instant e

@@ -4,3 +4,4 @@ pub mod Processes
 pub mod Turns
 pub mod Days
 pub mod MarkedDays
+pub mod Figure3

@@ -1,0 +1,153 @@
+-- Figure 3 of Afek and others, "The unbounded single-writer algorithm", as it is printed: scan and update as functions of what
+-- their reads return, and what it means that the turns of a process are such a procedure, one access at a time.
+use Prim.Native.Nat.{ℕ, zero, suc, _+_, _≤_, _<_}
+use mathlib.Core.Path.{_≡_}
+use mathlib.Core.Bool.{Bool, true, false, cond}
+use mathlib.Core.List.{List}
+use mathlib.Core.Option.{Option, none, some}
+use lib.ListN.{length, take, replicate}
+use lib.Dec.{eqb}
+use Rattle.snapshot.specs.Lists.{over, each, everyFrom}
+use Rattle.snapshot.specs.Demand.{Result}
+use Rattle.snapshot.specs.declared.Answer.the-variants.{Read, Page, Written}
+use Rattle.unbounded.specs.declared.Register.{Register}
+use Rattle.unbounded.specs.declared.Process.{Process}
+use Rattle.unbounded.specs.declared.Task.{Task}
+use Rattle.unbounded.specs.declared.Task.the-variants.{Idle, Scan, Update, Ready}
+use Rattle.unbounded.specs.Registers.{value, viewed, Order, collectedAt, isMoved}
+use Rattle.unbounded.specs.Turns.{reads, turned}
+
+-- ---- what the figure works on
+
+-- a register's fields: "(data, seq, view) triples"
+pub record Triple : Type 0 where
+  pub content : ℕ
+  pub seq : ℕ
+  pub view : List ℕ
+
+-- an array indexed by process, from 0
+abbrev pub Array : Type 0 → Type 0
+Array A = ℕ → A
+
+-- a[j] := x
+abbrev pub assigned : {A : Type 0} → Array A → ℕ → A → Array A
+assigned a j x i = cond (eqb i j) x (a i)
+
+-- the variables of scan
+pub record Variables : Type 0 where
+  pub moved : Array ℕ
+  pub a : Array Triple
+  pub b : Array Triple
+
+-- what a procedure does next: read register j and go on with what the read returns; write its own register and return; return the
+-- words, with the process that lent them, from 1, or 0; `spent` is where a given number of rounds of "while true" ends
+pub data Procedure : Type 0 where
+  read : Variables → (j : ℕ) → (Triple → Procedure) → Procedure
+  write : Triple → Procedure
+  return : (lender : ℕ) (words : List ℕ) → Procedure
+  spent : Procedure
+
+-- ---- the figure
+
+-- x[1..n] := collect, read by read: k registers are left, from place p on
+module _ (o : Order) where
+  unfoldable pub collect : (k p : ℕ) → (Array Triple → Variables) → Array Triple → (Array Triple → Procedure) → Procedure
+  collect zero p variables x next = next x
+  collect (suc k) p variables x next = read (variables x) (o .row p) (λ r. collect k (suc p) variables (assigned x (o .row p) r) next)
+
+-- lines 6 to 10, for the k processes from j on
+unfoldable pub search : (k j : ℕ) → (a b : Array Triple) (moved : Array ℕ) → (again : Array ℕ → Procedure) →
+    (finish : ℕ → List ℕ → Procedure) → Procedure
+search zero j a b moved again finish = again moved
+search (suc k) j a b moved again finish =
+    -- 7: if a[j].seq ≠ b[j].seq then
+    cond (eqb (a j .seq) (b j .seq))
+    (search k (suc j) a b moved again finish)
+    -- 8: if moved[j] = 1 then
+    (cond (eqb (moved j) 1)
+    -- 9: return (b[j].view)
+    (finish (suc j) (b j .view))
+    -- 10: else moved[j] := moved[j] + 1
+    (search k (suc j) a b (assigned moved j (moved j + 1)) again finish))
+
+-- scan, with what is done with the words that it returns and their lender
+module _ (o : Order) (n : ℕ) (finish : ℕ → List ℕ → Procedure) where
+  -- line 1: while true do; as many rounds as are given
+  unfoldable pub rounds : ℕ → (moved : Array ℕ) (a b : Array Triple) → Procedure
+  rounds zero moved a b = spent
+  rounds (suc k) moved a b =
+      -- 2: a[1..n] := collect
+      collect o n 0 (λ a. record { moved = moved; a = a; b = b }) a
+      (λ a.
+      -- 3: b[1..n] := collect
+      collect o n 0 (λ b. record { moved = moved; a = a; b = b }) b
+      (λ b.
+      -- 4: if (∀j) a[j].seq = b[j].seq then
+      cond (everyFrom (λ j. eqb (a j .seq) (b j .seq)) n 0)
+      -- 5: return (b[1].data, .., b[n].data)
+      (finish 0 (each n (λ j. b j .content)))
+      -- 6: else for j = 1 to n do
+      (search n 0 a b moved (λ moved. rounds k moved a b) finish)))
+
+  -- line 0: for j = 1 to n do moved[j] := 0; a place that was not read yet is 0
+  unfoldable pub scan : ℕ → Procedure
+  scan k =
+      let zeros : Triple = record { content = 0; seq = 0; view = replicate n 0 } in
+      rounds k (λ j. 0) (λ j. zeros) (λ j. zeros)
+
+-- update, by a process whose register's seq is s: line 1, s[1..n] := scan; line 2, r := (data, r.seq + 1, s[1..n])
+unfoldable pub update : Order → ℕ → ℕ → (word s : ℕ) → Procedure
+update o n k word s = scan o n (λ lender words. write (record { content = word; seq = s + 1; view = words })) k
+
+-- ---- the turns of a process are a procedure
+
+-- a register as the figure has it
+abbrev pub triple : ℕ → Register → Triple
+triple n r = record { content = value r; seq = r .seq; view = viewed n r }
+
+-- "the accepted turns it has had"
+abbrev pub turnsOf : Task → ℕ
+turnsOf Idle = 0
+turnsOf (Scan t) = t
+turnsOf (Update w t) = t
+turnsOf (Ready w at t) = t
+
+abbrev pub mark : Bool → ℕ
+mark true = 1
+mark false = 0
+
+module _ (o : Order) (n : ℕ) where
+  -- record p holds the procedure's variables
+  pub record Holds (v : Variables) (p : Process) : Type 0 where
+    pub moved : (j : ℕ) → j < n → v .moved j ≡ mark (isMoved (p .moved) j)
+    pub a : (j : ℕ) → j < n → v .a j ≡ triple n (collectedAt o (p .first) j)
+    pub b : (j : ℕ) → j < n → v .b j ≡ triple n (collectedAt o (p .second) j)
+
+  -- a turn of p, its t-th, was lent a page list and gave x, and the procedure goes on as q: only where q returns is it answered,
+  -- with q's words and lender; N is what then holds of the record
+  abbrev pub After : (N : Process → Type 0) → (t : ℕ) → Process → List ℕ → Result Process → Procedure → Type 0
+  After N t p page x (read v j next) =
+      (x .answer ≡ Read) × (x .page ≡ page) × (x .state .register ≡ p .register) × N (x .state)
+  After N t p page x (write r) =
+      (x .answer ≡ Read) × (x .page ≡ page) × (x .state .register ≡ p .register) × N (x .state)
+  After N t p page x (return lender words) =
+      ((at : ℕ) × (x .answer ≡ Page lender at t)) × (x .page ≡ over n words page) × (x .state .register ≡ p .register)
+  After N t p page x spent = Unit {0}
+
+  -- process p, after t turns, will do what the procedure says, whatever its reads return: the same register is read by the same
+  -- access, its collects, marks and turns are the procedure's, and its writing turn writes what line 2 says
+  unfoldable pub Does : Procedure → ℕ → Process → Type 0
+  Does (read v j next) t p =
+      Holds v p
+      × (turnsOf (p .task) ≡ t)
+      × (reads o n (p .task) ≡ some j)
+      × ((now : ℕ) (r : Register) (page : List ℕ) → length (r .view) ≡ 8 →
+      After (Does (next (triple n r)) (suc t)) (suc t) p page (turned o n now r page p) (next (triple n r)))
+  Does (write w) t p =
+      (turnsOf (p .task) ≡ t)
+      × (reads o n (p .task) ≡ none)
+      × ((now : ℕ) (r : Register) (page : List ℕ) →
+      let x = turned o n now r page p in
+      (x .answer ≡ Written (suc t)) × (x .page ≡ page) × (triple n (x .state .register) ≡ w))
+  Does (return lender words) t p = Unit {0}
+  Does spent t p = Unit {0}
