@@ -1,7 +1,7 @@
 -- Demand 3 of a list of items follows from what a method owes (`Owed`): the fold over the list, once for every method.
 use Prim.Native.Nat.{ℕ, zero, suc, _+_, _≤_, _<_, _-_}
 use native.Mathlib.Omega.{arith}
-use native.Mathlib.Nat.{add-zero, zero-add}
+use native.Mathlib.Nat.{zero-add}
 use native.Mathlib.Decide.{ℕ-discrete, decLt, decLe}
 use mathlib.Core.Path.{_≡_, refl, sym, ap, _∙_, subst}
 use mathlib.Core.Logic.{_≢_, by-cases}
@@ -11,8 +11,7 @@ use lib.ListN.{length, getD, set, replicate, length-append, length-set, length-r
 use lib.Seq.{getD-set-same, getD-set-other, getD-at}
 use Rattle.snapshot.specs.declared.Refusal.{Refusal}
 use Rattle.snapshot.specs.declared.Answer.{Answer}
-use Rattle.snapshot.specs.declared.Answer.the-variants.{Refused, Opened, Called, Read, Page, Written}
-use Rattle.snapshot.specs.Tally.{Job, scan, update, Seen, call, turn, bySeen, Call, Tally, started, callOf, instant, advanced, opens, gains, puts, putsIf, tallied}
+use Rattle.snapshot.specs.Tally.{Seen, Call, Tally, started, callOf, instant, advanced, opens, gains, puts, putsIf, tallied}
 use Rattle.snapshot.specs.Demand.{Method, Result, admit, step, Among, Fits, PageFits, WrittenFits, IsUpdate, Waiting, Patient, Holds}
 use Rattle.snapshot.proofs.Owed.{Owed, Outcome, called, stepped, scanned, updated, actor}
 

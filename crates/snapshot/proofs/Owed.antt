@@ -10,7 +10,7 @@ use Rattle.snapshot.specs.declared.Refusal.{Refusal}
 use Rattle.snapshot.specs.declared.Answer.{Answer}
 use Rattle.snapshot.specs.declared.Answer.the-variants.{Called, Read, Page, Written}
 use Rattle.snapshot.specs.Tally.{Job, scan, update, Seen, call, turn, bySeen, Call, opens, gains}
-use Rattle.snapshot.specs.Demand.{Method, Result, Among, RefusalFits, TurnsFit}
+use Rattle.snapshot.specs.Demand.{Method, Among, RefusalFits}
 
 -- the process that an item speaks of, from 0
 abbrev pub actor : Seen → ℕ

@@ -1,36 +1,36 @@
 -- Each accepted call and turn is one deed of a process, as `Owed` asks: its record is tied to its open call again, or its answer
 -- is a good page or a write.
-use Prim.Native.Nat.{ℕ, zero, suc, _+_, _*_, _-_, _≤_, _<_}
+use Prim.Native.Nat.{ℕ, suc, _+_, _-_, _≤_, _<_}
 use native.Mathlib.Numerals.{add-one}
 use native.Mathlib.Omega.{arith}
-use mathlib.Core.Path.{_≡_, refl, sym, ap, ap₂, _∙_, subst}
-use mathlib.Core.Logic.{_⊎_, inl, inr, _≢_}
-use mathlib.Core.Bool.{Bool, true, false, cond, true≢false}
-use mathlib.Core.List.{List, map}
+use mathlib.Core.Path.{_≡_, refl, sym, ap, _∙_, subst}
+use mathlib.Core.Logic.{inl, inr}
+use mathlib.Core.Bool.{true, false, true≢false}
+use mathlib.Core.List.{List}
 use mathlib.Core.Option.{Option, none, some}
-use lib.ListN.{length, getD, set, take, replicate, length-map, length-replicate}
-use lib.Seq.{length-take-le, take-take}
+use lib.ListN.{length, set, take, length-map}
+use lib.Seq.{length-take-le}
 use Rattle.snapshot.specs.Lists.{over}
 use Rattle.snapshot.specs.Tally.{Job, scan, update, Call, Seen, call, turn, opens, gains}
 use Rattle.snapshot.specs.Demand.{Among, Result}
 use Rattle.snapshot.specs.declared.Answer.{Answer}
-use Rattle.snapshot.specs.declared.Answer.the-variants.{Called, Read, Page, Written}
-use Rattle.snapshot.proofs.Lists.{take-over, length-over}
+use Rattle.snapshot.specs.declared.Answer.the-variants.{Called, Read, Written}
+use Rattle.snapshot.proofs.Lists.{take-over}
 use Rattle.snapshot.proofs.Views.{Good, good-later}
 use Rattle.snapshot.proofs.Owed.{Outcome, called, stepped, scanned, updated}
 use Rattle.unbounded.specs.declared.Register.{Register}
 use Rattle.unbounded.specs.declared.Process.{Process}
 use Rattle.unbounded.specs.declared.Task.{Task}
 use Rattle.unbounded.specs.declared.Task.the-variants.{Idle, Scan, Update, Ready}
-use Rattle.unbounded.specs.Registers.{noRegister, zeroRegister, value, Order, isMoved, noneMoved, laid, cleared, readInto, differs}
-use Rattle.unbounded.specs.Processes.{noProcess, begin}
-use Rattle.unbounded.specs.Turns.{position, placeAt, reads, firstAfter, secondAfter, endAfter, decision, marksAfter, passed, Found, found, afterRead, foundBy, scanTurn, updateTurn, written, withRegister, turnedBy}
-use Rattle.unbounded.specs.Days.{State, Item, method, mostReads, advance, isIdle, registerRead}
-use Rattle.unbounded.proofs.Places.{trimmed, trimmed-laid, length-read-into}
-use Rattle.unbounded.proofs.Scans.{Permutes, Laws}
-use Rattle.unbounded.proofs.Reading.{place-below, Sized, sized-begin, sized-read}
+use Rattle.unbounded.specs.Registers.{value, Order, cleared}
+use Rattle.unbounded.specs.Processes.{begin}
+use Rattle.unbounded.specs.Turns.{position, placeAt, reads, firstAfter, secondAfter, endAfter, decision, marksAfter, Found, afterRead, foundBy, scanTurn, updateTurn, written, withRegister, turnedBy}
+use Rattle.unbounded.specs.Days.{State, method, advance, isIdle, registerRead}
+use Rattle.unbounded.proofs.Places.{trimmed, trimmed-laid}
+use Rattle.unbounded.proofs.Scans.{Permutes}
+use Rattle.unbounded.proofs.Reading.{place-below, sized-begin, sized-read}
 use Rattle.unbounded.proofs.Scanning.{Scanning, Stepped, scanning-starts, scanning-reads, scanning-patient, position-is}
-use Rattle.unbounded.proofs.Machine.{processAt, registerAt, pageAt, Past, Owns, Scans, Keeps, Tie, Ties, own-process, others-tied, registers-stay, page-stays, past-stays, page-writes, past-writes}
+use Rattle.unbounded.proofs.Machine.{processAt, registerAt, pageAt, Past, Owns, Scans, Keeps, Tie, Ties, own-process, registers-stay, page-stays, past-stays, page-writes, past-writes}
 
 -- ---- the deeds of process d, from 1, in event e + 1
 
@@ -127,7 +127,7 @@ module _ (n : ℕ) (o : Order) (H : ℕ → State) (open-call : ℕ → Option C
           r = processAt H (o .row (placeAt n (S .pos))) e .register
 
           full : length (take n (r .view)) ≡ n
-          full = view-full (o .row (placeAt n (S .pos))) (P .row-below (placeAt n (S .pos)) (place-below n r (S .pos) (S .low)))
+          full = view-full (o .row (placeAt n (S .pos))) (P .row-below (placeAt n (S .pos)) (place-below n (S .pos) (S .low)))
 
           a : List Register
           a = firstAfter n (S .pos) r (before .first)

@@ -1,24 +1,23 @@
 -- Demand 3 for Figure 3's method: every n from 1 to 8, every reading order, every list of items.
-use Prim.Native.Nat.{ℕ, zero, suc, _+_, _*_, _-_, _≤_, _<_}
+use Prim.Native.Nat.{ℕ, suc, _+_, _-_, _≤_, _<_}
 use native.Mathlib.Numerals.{add-one}
 use native.Mathlib.Omega.{arith}
 use mathlib.Core.Path.{_≡_, refl, sym, ap, ap₂, _∙_, subst}
 use mathlib.Core.Logic.{_≢_}
-use mathlib.Core.Bool.{Bool, true, false, cond, not, _||_, true≢false, false≢true}
+use mathlib.Core.Bool.{Bool, true, false, not, _||_, true≢false}
 use mathlib.Core.List.{List, [], _∷_, map}
-use mathlib.Core.Option.{Option, none, some, Option·none-ne-some, Option·some-ne-none, Option·some-injective}
-use lib.ListN.{length, getD, set, take, replicate, length-replicate, getD-replicate}
-use lib.Dec.{eqb, leb, ltb}
-use borrow.Author.Tests.{eqb-true, eqb-false, ltb-true, ltb-false, leb-false, eq-eqb, ne-eqb, le-ltb, lt-leb}
-use Rattle.snapshot.specs.Lists.{someOf}
+use mathlib.Core.Option.{Option, none, some, Option·some-ne-none, Option·some-injective}
+use lib.ListN.{length, getD, take, replicate, length-replicate, getD-replicate}
+use lib.Dec.{eqb, ltb}
+use borrow.Author.Tests.{eqb-true, eqb-false, ltb-false, ne-eqb, le-ltb, lt-leb}
 use Rattle.snapshot.specs.Refusals.{numberOf, Cause, firstCause}
-use Rattle.snapshot.specs.Tally.{Job, scan, update, Seen, call, turn, Call, started}
-use Rattle.snapshot.specs.Demand.{Method, Result, Among, RefusalFits, Holds, step}
+use Rattle.snapshot.specs.Tally.{scan, update, Seen, call, turn, Call, started}
+use Rattle.snapshot.specs.Demand.{Result, Among, RefusalFits, Holds, admit, step}
 use Rattle.snapshot.specs.declared.Answer.{Answer}
 use Rattle.snapshot.specs.declared.Answer.the-variants.{Called}
 use Rattle.snapshot.specs.declared.Refusal.{Refusal}
 use Rattle.snapshot.specs.declared.Refusal.the-variants.{CountRange, ProcessRange, Busy, Idle as NotBusy, DayFull, LentSize, OpenState, CannotArise}
-use Rattle.snapshot.proofs.Causes.{Passes, accepted-passes, Avoids, refused-avoids, refused-first}
+use Rattle.snapshot.proofs.Causes.{accepted-passes, Avoids, refused-avoids, refused-first}
 use Rattle.snapshot.proofs.Lists.{some-of-none, map-replicate, take-replicate}
 use Rattle.snapshot.proofs.Registers.{counted-start}
 use Rattle.snapshot.proofs.Views.{viewed-start}
@@ -315,3 +314,12 @@ opening-opens o s k q =
     map-constant : (ps : List Process) → map (λ p. zeroProcess) ps ≡ replicate (length ps) zeroProcess
     map-constant [] = refl
     map-constant (p ∷ ps) = ap {B = List Process} (λ r. zeroProcess ∷ r) (map-constant ps)
+
+-- demand 3 after any accepted opening: whatever the day and the table held before it
+pub demand3-after-opening : (s : State) (n : ℕ) → refusal s (openFor n) ≡ none → (items : List Item) →
+    Holds (method ascending n) (step (method ascending n) s (openFor n) .state) (started n n 0) items
+unfolding step
+demand3-after-opening s n q items =
+    let w = opening-opens ascending s n q in
+    subst (λ r. Holds (method ascending n) r (started n n 0) items)
+    (sym (ap (λ k. admit (method ascending n) s (openFor n) k .state) q ∙ w .0)) (demand3 n (w .1) (w .2) items)

@@ -7,13 +7,13 @@ use native.Mathlib.Decide.{ℕ-discrete}
 use lib.Arith.{digits-mod}
 use mathlib.Core.Path.{_≡_, refl, sym, ap, ap₂, _∙_, subst}
 use mathlib.Core.Logic.{by-cases, _≢_}
-use mathlib.Core.Bool.{Bool, true, false, cond, _&&_, true≢false, false≢true}
+use mathlib.Core.Bool.{Bool, true, false, cond, _&&_}
 use mathlib.Core.List.{List, map}
 use mathlib.Core.Option.{Option, none, some}
 use lib.ListN.{length, getD, take, replicate, length-map, length-replicate}
 use lib.Seq.{length-take-le, take-all}
 use lib.Dec.{eqb}
-use borrow.Author.Tests.{eqb-true, eqb-false, eq-eqb, ne-eqb}
+use borrow.Author.Tests.{eq-eqb, ne-eqb}
 use Rattle.snapshot.specs.Lists.{over, each, everyFrom}
 use Rattle.snapshot.specs.Demand.{Result}
 use Rattle.snapshot.specs.declared.Answer.the-variants.{Read, Page, Written}
@@ -23,11 +23,11 @@ use Rattle.snapshot.proofs.DoubleCollect.{Ends, nobody, lender, goes-on, verdic
 use Rattle.unbounded.specs.declared.Register.{Register}
 use Rattle.unbounded.specs.declared.Process.{Process}
 use Rattle.unbounded.specs.declared.Task.{Task}
-use Rattle.unbounded.specs.declared.Task.the-variants.{Idle, Scan, Update, Ready}
-use Rattle.unbounded.specs.Registers.{noRegister, zeroRegister, value, viewed, Order, collectedAt, shown, differs, lends, isMoved, withMoved, noneMoved, laid, readInto, cleared}
+use Rattle.unbounded.specs.declared.Task.the-variants.{Scan, Update, Ready}
+use Rattle.unbounded.specs.Registers.{noRegister, zeroRegister, value, viewed, Order, collectedAt, shown, differs, lends, isMoved, withMoved, laid, readInto, cleared}
 use Rattle.unbounded.specs.Processes.{begin}
-use Rattle.unbounded.specs.Turns.{position, placeAt, reads, firstAfter, secondAfter, endAfter, decision, markFrom, passed, marksAfter, Found, found, afterRead, foundBy, scanTurn, updateTurn, written, turnedBy, turned}
-use Rattle.unbounded.specs.Figure3.{Triple, Array, assigned, Variables, Procedure, read, write, return, spent, collect, search, rounds, scan, update, triple, turnsOf, mark, Holds, After, Does}
+use Rattle.unbounded.specs.Turns.{position, placeAt, reads, firstAfter, secondAfter, endAfter, markFrom, passed, marksAfter, Found, found, afterRead, foundBy, scanTurn, updateTurn, written, turnedBy, turned}
+use Rattle.unbounded.specs.Figure3.{Triple, Array, assigned, Variables, Procedure, write, return, collect, search, rounds, scan, update, zeroTriple, triple, turnsOf, mark, Holds, After, Does}
 use Rattle.unbounded.proofs.Places.{trimmed, read-into-same, read-into-other, trimmed-laid}
 use Rattle.unbounded.proofs.Marks.{none-moved, moved-same, moved-other}
 use Rattle.unbounded.proofs.Moved.{differs-false, differs-true, lends-differs, lends-moved, unmarked}
@@ -500,14 +500,14 @@ module _ (n : ℕ) (o : Order) (P : Permutes n o) (z : 0 < n) (eight : n ≤ 8) 
   second-does f m zero q l rest t moved x y p c A = (
     A .holds,
     ap turnsOf (A .task) ∙ turns-of K t,
-    ap (reads o n) (A .task) ∙ reads-of o n K t (n + q) q (position-of m (n + q) t c (omega arith)) (place-second n noRegister q),
+    ap (reads o n) (A .task) ∙ reads-of o n K t (n + q) q (position-of m (n + q) t c (omega arith)) (place-second n q),
     (λ now r pg full. ending now r full p t moved x y A pg q m (omega arith) c f
         (λ mv p′ A′. rest (suc t) mv x (assigned y (o .row q) (triple n r)) p′ (omega arith) A′)),
   )
   second-does f m (suc k) q l rest t moved x y p c A = (
     A .holds,
     ap turnsOf (A .task) ∙ turns-of K t,
-    ap (reads o n) (A .task) ∙ reads-of o n K t (n + q) q (position-of m (n + q) t c (omega arith)) (place-second n noRegister q),
+    ap (reads o n) (A .task) ∙ reads-of o n K t (n + q) q (position-of m (n + q) t c (omega arith)) (place-second n q),
     (λ now r pg full. onwards now r full p t moved x y A pg (n + q) (position-of m (n + q) t c (omega arith)) (λ w. omega arith)
         k (suc q) (λ b. record { moved = moved; a = x; b = b }) (assigned y (o .row q) (triple n r)) (closing f moved x)
         (second-does f m k (suc q) (omega arith) rest (suc t) moved x (assigned y (o .row q) (triple n r))
@@ -527,7 +527,7 @@ module _ (n : ℕ) (o : Order) (P : Permutes n o) (z : 0 < n) (eight : n ≤ 8) 
   first-does f m zero q l rest t moved x y p c A = (
     A .holds,
     ap turnsOf (A .task) ∙ turns-of K t,
-    ap (reads o n) (A .task) ∙ reads-of o n K t q q (position-of m q t c (omega arith)) (place-first n noRegister q (omega arith)),
+    ap (reads o n) (A .task) ∙ reads-of o n K t q q (position-of m q t c (omega arith)) (place-first n q (omega arith)),
     (λ now r pg full.
         let x′ : Array Triple = assigned x (o .row q) (triple n r) in
         let hold : Array Triple → Variables = λ b. record { moved = moved; a = x′; b = b } in
@@ -543,7 +543,7 @@ module _ (n : ℕ) (o : Order) (P : Permutes n o) (z : 0 < n) (eight : n ≤ 8) 
   first-does f m (suc k) q l rest t moved x y p c A = (
     A .holds,
     ap turnsOf (A .task) ∙ turns-of K t,
-    ap (reads o n) (A .task) ∙ reads-of o n K t q q (position-of m q t c (omega arith)) (place-first n noRegister q (omega arith)),
+    ap (reads o n) (A .task) ∙ reads-of o n K t q q (position-of m q t c (omega arith)) (place-first n q (omega arith)),
     (λ now r pg full. onwards now r full p t moved x y A pg q (position-of m q t c (omega arith)) (λ w. omega arith)
         k (suc q) (λ a. record { moved = moved; a = a; b = y }) (assigned x (o .row q) (triple n r)) (after-first f moved y)
         (first-does f m k (suc q) (omega arith) rest (suc t) moved (assigned x (o .row q) (triple n r)) y
@@ -563,7 +563,7 @@ module _ (n : ℕ) (o : Order) (P : Permutes n o) (z : 0 < n) (eight : n ≤ 8) 
 
 -- a cleared collect stands for zeros
 cleared-stands : (n : ℕ) (o : Order) (P : Permutes n o) → n ≤ 8 → (rs : List Register) → 8 ≤ length rs →
-    Stands n o P (λ j. record { content = 0; seq = 0; view = replicate n 0 }) (cleared n rs)
+    Stands n o P (λ j. zeroTriple n) (cleared n rs)
 unfolding cleared
 cleared-stands n o P eight rs l j b =
     let i = o .place j in
@@ -576,7 +576,7 @@ cleared-stands n o P eight rs l j b =
     below : o .place j < n → o .place j < length rs
     below h = omega arith
 
-    zero-triple : (old : Register) → triple n (laid n zeroRegister old) ≡ record { content = 0; seq = 0; view = replicate n 0 }
+    zero-triple : (old : Register) → triple n (laid n zeroRegister old) ≡ zeroTriple n
     zero-triple old =
         ap (λ t. record { content = t .word; seq = t .seq; view = t .view })
         (trimmed-laid n zeroRegister old (length-take-le n (replicate 8 0) (omega arith)))
@@ -584,7 +584,7 @@ cleared-stands n o P eight rs l j b =
 
 module _ (n : ℕ) (o : Order) (P : Permutes n o) (z : 0 < n) (eight : n ≤ 8) (p : Process) (sized : Sized p) where
   called-at : (K : Kind) → At n o P z eight K (p .register .seq) (begin n (taskOf K 0) p) 0
-      (record { moved = λ j. 0; a = λ j. record { content = 0; seq = 0; view = replicate n 0 }; b = λ j. record { content = 0; seq = 0; view = replicate n 0 } })
+      (record { moved = λ j. 0; a = λ j. zeroTriple n; b = λ j. zeroTriple n })
   unfolding begin
   called-at K =
       record {
@@ -600,16 +600,18 @@ module _ (n : ℕ) (o : Order) (P : Permutes n o) (z : 0 < n) (eight : n ≤ 8) 
         seq = refl;
       }
 
-  -- the turns of a scan are Figure 3's scan
-  pub scan-does-figure-3 : (k : ℕ) → Does o n (scan o n return k) 0 (begin n (Scan 0) p)
+  scan-does : (k : ℕ) → Does o n (scan o n return k) 0 (begin n (Scan 0) p)
   unfolding scan
-  scan-does-figure-3 k =
-      rounds-do n o P z eight page (p .register .seq) k 0 0 (λ j. 0) (λ j. record { content = 0; seq = 0; view = replicate n 0 })
-      (λ j. record { content = 0; seq = 0; view = replicate n 0 }) (begin n (Scan 0) p) (omega arith) (called-at page)
+  scan-does k =
+      rounds-do n o P z eight page (p .register .seq) k 0 0 (λ j. 0) (λ j. zeroTriple n) (λ j. zeroTriple n) (begin n (Scan 0) p) (omega arith) (called-at page)
 
-  -- the turns of an update are Figure 3's update
-  pub update-does-figure-3 : (k w : ℕ) → Does o n (update o n k w (p .register .seq)) 0 (begin n (Update w 0) p)
+  update-does : (k w : ℕ) → Does o n (update o n k w (p .register .seq)) 0 (begin n (Update w 0) p)
   unfolding update scan
-  update-does-figure-3 k w =
-      rounds-do n o P z eight (entry w) (p .register .seq) k 0 0 (λ j. 0) (λ j. record { content = 0; seq = 0; view = replicate n 0 })
-      (λ j. record { content = 0; seq = 0; view = replicate n 0 }) (begin n (Update w 0) p) (omega arith) (called-at (entry w))
+  update-does k w =
+      rounds-do n o P z eight (entry w) (p .register .seq) k 0 0 (λ j. 0) (λ j. zeroTriple n) (λ j. zeroTriple n) (begin n (Update w 0) p) (omega arith) (called-at (entry w))
+
+  -- from its call on, the turns of a scan are Figure 3's scan, and those of an update its update, for any number k of rounds
+  pub turns-are-figure-3 : (k : ℕ) →
+      Does o n (scan o n return k) 0 (begin n (Scan 0) p)
+      × ((w : ℕ) → Does o n (update o n k w (p .register .seq)) 0 (begin n (Update w 0) p))
+  turns-are-figure-3 k = (scan-does k, update-does k)

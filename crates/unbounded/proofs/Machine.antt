@@ -1,19 +1,17 @@
 -- The machine's part of demand 3: what holds of its past, what ties a process record to its open call, and one event's effect
 -- on both.
-use Prim.Native.Nat.{ℕ, zero, suc, _+_, _*_, _-_, _≤_, _<_}
-use native.Mathlib.Nat.{suc-ne-zero}
+use Prim.Native.Nat.{ℕ, suc, _+_, _-_, _≤_, _<_}
 use native.Mathlib.Numerals.{add-one}
 use native.Mathlib.Omega.{arith}
 use native.Mathlib.Decide.{ℕ-discrete}
-use mathlib.Core.Path.{_≡_, refl, sym, ap, ap₂, _∙_, subst}
-use mathlib.Core.Logic.{_⊎_, inl, inr, by-cases, _≢_}
-use mathlib.Core.Bool.{Bool, true, false, _||_}
+use mathlib.Core.Path.{_≡_, sym, ap, _∙_, subst}
+use mathlib.Core.Logic.{by-cases, _≢_}
 use mathlib.Core.List.{List, map}
 use mathlib.Core.Option.{Option, none, some}
 use lib.ListN.{length, getD, set, take, length-set, length-map, List·getD-map}
 use lib.Seq.{getD-set-same, getD-set-other, map-set-same}
 use Rattle.snapshot.specs.Lists.{each}
-use Rattle.snapshot.specs.Tally.{Job, scan, update, Call, opens, gains}
+use Rattle.snapshot.specs.Tally.{Job, scan, update, Call}
 use Rattle.snapshot.specs.Demand.{Among}
 use Rattle.snapshot.proofs.Lists.{list-is-each, each-cong, map-set}
 use Rattle.snapshot.proofs.Registers.{Counted, counted-stays, counted-writes}
@@ -22,7 +20,7 @@ use Rattle.unbounded.specs.declared.Register.{Register}
 use Rattle.unbounded.specs.declared.Process.{Process}
 use Rattle.unbounded.specs.declared.Task.{Task}
 use Rattle.unbounded.specs.declared.Task.the-variants.{Idle, Scan, Update, Ready}
-use Rattle.unbounded.specs.Registers.{noRegister, value, Order, isMoved}
+use Rattle.unbounded.specs.Registers.{value, Order}
 use Rattle.unbounded.specs.Processes.{noProcess}
 use Rattle.unbounded.specs.Days.{State, mostReads, advance}
 use Rattle.unbounded.proofs.Places.{trimmed}

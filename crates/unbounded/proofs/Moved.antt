@@ -29,13 +29,13 @@ and-right : (a b : Bool) → (a && b) ≡ true → b ≡ true
 and-right true b h = h
 and-right false b h = absurd (false≢true h)
 
-pub lends-differs : (o : Order) (a b : List Register) (ms : List Bool) (j : ℕ) → lends o a b ms j ≡ true → differs o a b j ≡ true
-unfolding lends
-lends-differs o a b ms j h = and-left (differs o a b j) (isMoved ms j) h
-
 pub lends-moved : (o : Order) (a b : List Register) (ms : List Bool) (j : ℕ) → lends o a b ms j ≡ true → isMoved ms j ≡ true
 unfolding lends
 lends-moved o a b ms j h = and-right (differs o a b j) (isMoved ms j) h
+
+pub lends-differs : (o : Order) (a b : List Register) (ms : List Bool) (j : ℕ) → lends o a b ms j ≡ true → differs o a b j ≡ true
+unfolding lends
+lends-differs o a b ms j h = and-left (differs o a b j) (isMoved ms j) h
 
 -- who differs and does not lend is not marked yet
 pub unmarked : (o : Order) (a b : List Register) (ms : List Bool) (j : ℕ) → differs o a b j ≡ true → lends o a b ms j ≡ false → isMoved ms j ≡ false

@@ -1,14 +1,14 @@
 -- What a read does to the collects: the place it goes to, when a decision falls, and that no array changes its size.
-use Prim.Native.Nat.{ℕ, suc, _+_, _*_, _-_, _≤_, _<_}
+use Prim.Native.Nat.{ℕ, _+_, _*_, _-_, _≤_, _<_}
 use native.Mathlib.Omega.{arith}
-use mathlib.Core.Path.{_≡_, refl, ap, _∙_}
+use mathlib.Core.Path.{_≡_, refl}
 use mathlib.Core.Logic.{_≢_}
 use mathlib.Core.Bool.{Bool, true, false, cond}
 use mathlib.Core.List.{List, map}
-use mathlib.Core.Option.{Option, none, some}
+use mathlib.Core.Option.{none, some}
 use lib.ListN.{length, length-map, length-replicate}
 use lib.Seq.{length-take-le}
-use lib.Dec.{eqb, ltb}
+use lib.Dec.{ltb}
 use borrow.Author.Tests.{ltb-true, ltb-false, lt-ltb, le-ltb, eq-eqb, ne-eqb}
 use Rattle.snapshot.specs.Verdict.{verdict}
 use Rattle.snapshot.proofs.Lists.{length-over}
@@ -23,14 +23,14 @@ use Rattle.unbounded.proofs.Places.{length-read-into}
 
 -- ---- where a read goes
 
-module _ (n : ℕ) (r : Register) where
+module _ (n : ℕ) where
   pub place-first : (p : ℕ) → p < n → placeAt n p ≡ p
   unfolding placeAt
-  place-first p l = ap (λ t. cond t p (p - n)) (lt-ltb p n l)
+  place-first p l = rw (lt-ltb p n l)
 
   pub place-second : (q : ℕ) → placeAt n (n + q) ≡ q
   unfolding placeAt
-  place-second q = ap (λ t. cond t (n + q) (n + q - n)) (le-ltb (n + q) n (omega arith)) ∙ omega arith
+  place-second q = rw (le-ltb (n + q) n (omega arith)) (omega arith)
 
   pub place-below : (p : ℕ) → p < 2 * n → placeAt n p < n
   unfolding placeAt
@@ -40,44 +40,42 @@ module _ (n : ℕ) (r : Register) where
       go true q = ltb-true p n q
       go false q = let g = ltb-false p n q in omega arith
 
-  pub first-reads : (p : ℕ) (a : List Register) → p < n → firstAfter n p r a ≡ readInto n r p a
-  unfolding firstAfter
-  first-reads p a l =
-      ap (λ t. cond t (readInto n r (placeAt n p) a) a) (lt-ltb p n l) ∙ ap (λ i. readInto n r i a) (place-first p l)
+  module _ (r : Register) where
+    pub first-reads : (p : ℕ) (a : List Register) → p < n → firstAfter n p r a ≡ readInto n r p a
+    unfolding firstAfter
+    first-reads p a l = rw (lt-ltb p n l, place-first p l)
 
-  pub first-waits : (p : ℕ) (a : List Register) → n ≤ p → firstAfter n p r a ≡ a
-  unfolding firstAfter
-  first-waits p a l = ap (λ t. cond t (readInto n r (placeAt n p) a) a) (le-ltb p n l)
+    pub first-waits : (p : ℕ) (a : List Register) → n ≤ p → firstAfter n p r a ≡ a
+    unfolding firstAfter
+    first-waits p a l = rw (le-ltb p n l)
 
-  pub second-waits : (p : ℕ) (c : List Register) → p < n → secondAfter n p r c ≡ c
-  unfolding secondAfter
-  second-waits p c l = ap (λ t. cond t c (readInto n r (placeAt n p) c)) (lt-ltb p n l)
+    pub second-waits : (p : ℕ) (c : List Register) → p < n → secondAfter n p r c ≡ c
+    unfolding secondAfter
+    second-waits p c l = rw (lt-ltb p n l)
 
-  pub second-reads : (q : ℕ) (c : List Register) → secondAfter n (n + q) r c ≡ readInto n r q c
-  unfolding secondAfter
-  second-reads q c =
-      ap (λ t. cond t c (readInto n r (placeAt n (n + q)) c)) (le-ltb (n + q) n (omega arith))
-      ∙ ap (λ i. readInto n r i c) (place-second q)
+    pub second-reads : (q : ℕ) (c : List Register) → secondAfter n (n + q) r c ≡ readInto n r q c
+    unfolding secondAfter
+    second-reads q c = rw (le-ltb (n + q) n (omega arith), place-second q)
 
   pub end-waits : (p now end : ℕ) → p + 1 ≢ n → endAfter n p now end ≡ end
   unfolding endAfter
-  end-waits p now end h = ap (λ t. cond t now end) (ne-eqb (p + 1) n h)
+  end-waits p now end h = rw (ne-eqb (p + 1) n h)
 
   pub end-reads : (p now end : ℕ) → p + 1 ≡ n → endAfter n p now end ≡ now
   unfolding endAfter
-  end-reads p now end h = ap (λ t. cond t now end) (eq-eqb (p + 1) n h)
+  end-reads p now end h = rw (eq-eqb (p + 1) n h)
 
--- ---- when a decision falls
+  -- ---- when a decision falls
 
-module _ (n : ℕ) (o : Order) where
-  pub decision-waits : (p : ℕ) (a c : List Register) (ms : List Bool) → p + 1 ≢ 2 * n → decision o n p a c ms ≡ none
-  unfolding decision
-  decision-waits p a c ms h = ap (λ b. cond b (some (verdict n (differs o a c) (lends o a c ms))) none) (ne-eqb (p + 1) (2 * n) h)
+  module _ (o : Order) where
+    pub decision-waits : (p : ℕ) (a c : List Register) (ms : List Bool) → p + 1 ≢ 2 * n → decision o n p a c ms ≡ none
+    unfolding decision
+    decision-waits p a c ms h = rw (ne-eqb (p + 1) (2 * n) h)
 
-  pub decision-falls : (p : ℕ) (a c : List Register) (ms : List Bool) → p + 1 ≡ 2 * n →
-      decision o n p a c ms ≡ some (verdict n (differs o a c) (lends o a c ms))
-  unfolding decision
-  decision-falls p a c ms h = ap (λ b. cond b (some (verdict n (differs o a c) (lends o a c ms))) none) (eq-eqb (p + 1) (2 * n) h)
+    pub decision-falls : (p : ℕ) (a c : List Register) (ms : List Bool) → p + 1 ≡ 2 * n →
+        decision o n p a c ms ≡ some (verdict n (differs o a c) (lends o a c ms))
+    unfolding decision
+    decision-falls p a c ms h = rw (eq-eqb (p + 1) (2 * n) h)
 
 -- ---- sizes
 

@@ -1,28 +1,25 @@
 -- The invariant of a process that scans, and what one reading turn makes of it: the scan goes on, or it finds a good page.
-use Prim.Native.Nat.{ℕ, zero, suc, _+_, _*_, _-_, _≤_, _<_}
+use Prim.Native.Nat.{ℕ, suc, _+_, _*_, _≤_, _<_}
 use native.Mathlib.Omega.{arith}
 use lib.Arith.{digits-lt, digits-mod}
 use mathlib.Core.Path.{_≡_, refl, sym, ap, _∙_, subst}
-use mathlib.Core.Logic.{_⊎_, inl, inr, ⊎-elim, _≢_}
-use mathlib.Core.Bool.{Bool, true, false, cond, true≢false, false≢true}
+use mathlib.Core.Logic.{_⊎_, inl, inr, ⊎-elim}
+use mathlib.Core.Bool.{Bool, true, false, false≢true}
 use mathlib.Core.List.{List}
 use mathlib.Core.Option.{Option, none, some}
-use lib.ListN.{length, getD, take}
-use lib.Dec.{eqb}
-use borrow.Author.Tests.{eq-eqb, ne-eqb}
-use Rattle.snapshot.specs.Verdict.{Verdict, clean, lent, again, verdict}
+use lib.ListN.{length, take}
+use Rattle.snapshot.specs.Verdict.{Verdict, verdict}
 use Rattle.snapshot.proofs.Lists.{below}
 use Rattle.snapshot.proofs.Views.{Good}
 use Rattle.snapshot.proofs.DoubleCollect.{Ends, nobody, lender, goes-on, verdict-ends, marks-grow, marks-few}
 use Rattle.unbounded.specs.declared.Register.{Register}
-use Rattle.unbounded.specs.declared.Process.{Process}
-use Rattle.unbounded.specs.Registers.{noRegister, viewed, Order, collectedAt, shown, differs, lends, isMoved, noneMoved}
-use Rattle.unbounded.specs.Turns.{position, placeAt, firstAfter, secondAfter, endAfter, decision, markFrom, passed, marksAfter, Found, found, foundBy}
+use Rattle.unbounded.specs.Registers.{viewed, Order, collectedAt, shown, differs, lends, isMoved, noneMoved}
+use Rattle.unbounded.specs.Turns.{position, placeAt, firstAfter, secondAfter, endAfter, decision, markFrom, marksAfter, Found, found}
 use Rattle.unbounded.specs.Days.{mostReads}
 use Rattle.unbounded.proofs.Places.{trimmed}
 use Rattle.unbounded.proofs.Moved.{lends-differs, lends-moved, unmarked}
 use Rattle.unbounded.proofs.Reading.{decision-waits, decision-falls}
-use Rattle.unbounded.proofs.Marks.{none-moved, length-marks, marks-keep, marks-only, marks-set}
+use Rattle.unbounded.proofs.Marks.{none-moved, marks-keep, marks-only, marks-set}
 use Rattle.unbounded.proofs.Scans.{Permutes, Laws, Collecting, Collected, Reads, collecting-starts, collecting-waits, collecting-reads, clean-good, lent-good, differs-written}
 
 bool-cases : {C : Type 0} (b : Bool) → (b ≡ true → C) → (b ≡ false → C) → C

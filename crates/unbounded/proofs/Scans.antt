@@ -1,23 +1,21 @@
 -- A scan over the history of the registers: what its collects hold, and that a verdict is a good page (Lemmas 3.1 and 3.2)
 -- or the marks grow (Lemma 3.4). R j t is register j at instant t, with n words of view; page t is the page of instant t.
-use Prim.Native.Nat.{ℕ, zero, suc, _+_, _*_, _-_, _≤_, _<_}
+use Prim.Native.Nat.{ℕ, suc, _+_, _*_, _≤_, _<_}
 use native.Mathlib.Omega.{arith}
-use native.Mathlib.Decide.{ℕ-discrete, decLt}
-use mathlib.Core.Path.{_≡_, refl, sym, ap, _∙_, subst}
+use native.Mathlib.Decide.{ℕ-discrete}
+use mathlib.Core.Path.{_≡_, sym, ap, _∙_, subst}
 use mathlib.Core.Logic.{_⊎_, inl, inr, by-cases, _≢_}
-use mathlib.Core.Bool.{Bool, true, false, cond, not, _&&_, true≢false, false≢true}
+use mathlib.Core.Bool.{true, false}
 use mathlib.Core.List.{List}
 use lib.ListN.{length, getD, take}
-use lib.Dec.{eqb, ltb}
-use borrow.Author.Tests.{eqb-true, eqb-false, ltb-true, ltb-false, lt-ltb, le-ltb, eq-eqb, ne-eqb}
 use Rattle.snapshot.specs.Lists.{each}
 use Rattle.snapshot.proofs.Lists.{each-cong}
 use Rattle.snapshot.proofs.Registers.{Counted, between}
 use Rattle.snapshot.proofs.Views.{Good, Viewed, borrowed}
 use Rattle.unbounded.specs.declared.Register.{Register}
-use Rattle.unbounded.specs.Registers.{noRegister, value, viewed, Order, collectedAt, shown, differs, lends, isMoved, readInto}
-use Rattle.unbounded.specs.Turns.{position, placeAt, firstAfter, secondAfter, endAfter, markFrom}
-use Rattle.unbounded.proofs.Places.{trimmed, length-read-into, read-into-same, read-into-other}
+use Rattle.unbounded.specs.Registers.{noRegister, value, viewed, Order, collectedAt, shown, differs, readInto}
+use Rattle.unbounded.specs.Turns.{placeAt, firstAfter, secondAfter, endAfter}
+use Rattle.unbounded.proofs.Places.{trimmed, read-into-same, read-into-other}
 use Rattle.unbounded.proofs.Moved.{differs-false, differs-true}
 use Rattle.unbounded.proofs.Reading.{place-first, place-second, first-reads, first-waits, second-reads, second-waits, end-reads, end-waits}
 
@@ -97,33 +95,33 @@ module _ (n : ℕ) (o : Order) (R : ℕ → ℕ → Register) (page : ℕ → Li
       n ≤ length a → n ≤ length c → b ≤ e → trimmed n r ≡ R (o .row (placeAt n pos)) e →
       Collecting b e a c end pos → Reads b e a c end r pos
   collecting-reads {b} {e} {a} {c} {end} r full la lc w q (in-first p l h) =
-      let q′ : trimmed n r ≡ R (o .row p) e = q ∙ ap (λ i. R (o .row i) e) (place-first n r p l) in
+      let q′ : trimmed n r ≡ R (o .row p) e = q ∙ ap (λ i. R (o .row i) e) (place-first n p l) in
       let held = held-read e r full a p b la l w q′ h in
       by-cases (ℕ-discrete (p + 1) n)
       (λ x. inl (
         omega arith,
-        rw (first-reads n r p a l, second-waits n r p c l, end-reads n r p (suc e) end x)
+        rw (first-reads n r p a l, second-waits n r p c l, end-reads n p (suc e) end x)
             (subst (λ k. Collecting b (suc e) (readInto n r p a) c (suc e) k) (omega arith)
             (in-second 0 (omega arith) (omega arith) (λ k m. held-later (suc e) (omega arith) (held k (omega arith))) (λ k m. absurd (omega arith)))),
       ))
       (λ x. inl (
         omega arith,
-        rw (first-reads n r p a l, second-waits n r p c l, end-waits n r p (suc e) end x)
+        rw (first-reads n r p a l, second-waits n r p c l, end-waits n p (suc e) end x)
             (in-first (p + 1) (omega arith) held),
       ))
   collecting-reads {b} {e} {a} {c} {end} r full la lc w q (in-second p l m f h) =
-      let q′ : trimmed n r ≡ R (o .row p) e = q ∙ ap (λ i. R (o .row i) e) (place-second n r p) in
+      let q′ : trimmed n r ≡ R (o .row p) e = q ∙ ap (λ i. R (o .row i) e) (place-second n p) in
       let held = held-read e r full c p end lc l m q′ h in
       let late : n + p + 1 ≢ n = λ x. omega arith in
       by-cases (ℕ-discrete (p + 1) n)
       (λ x. inr (
         omega arith,
-        rw (first-waits n r (n + p) a (omega arith), second-reads n r p c, end-waits n r (n + p) (suc e) end late)
+        rw (first-waits n r (n + p) a (omega arith), second-reads n r p c, end-waits n (n + p) (suc e) end late)
             (record { firsts = f; seconds = λ k g. held k (omega arith) }),
       ))
       (λ x. inl (
         omega arith,
-        rw (first-waits n r (n + p) a (omega arith), second-reads n r p c, end-waits n r (n + p) (suc e) end late)
+        rw (first-waits n r (n + p) a (omega arith), second-reads n r p c, end-waits n (n + p) (suc e) end late)
             (subst (λ k. Collecting b (suc e) a (readInto n r p c) end k) (omega arith)
             (in-second (p + 1) (omega arith) (omega arith) f held)),
       ))

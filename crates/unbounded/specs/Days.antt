@@ -17,7 +17,7 @@ use Rattle.unbounded.specs.declared.Process.{Process}
 use Rattle.unbounded.specs.declared.Day.{Day}
 use Rattle.unbounded.specs.declared.Task.{Task}
 use Rattle.unbounded.specs.declared.Task.the-variants.{Idle, Scan, Update, Ready}
-use Rattle.unbounded.specs.Registers.{noRegister, value, Order, ascending, viewed}
+use Rattle.unbounded.specs.Registers.{noRegister, value, Order}
 use Rattle.unbounded.specs.Processes.{noProcess, zeroProcess, begin}
 use Rattle.unbounded.specs.Turns.{reads, turned}
 

@@ -1,11 +1,11 @@
 -- Figure 3 of Afek and others, "The unbounded single-writer algorithm", as it is printed: scan and update as functions of what
 -- their reads return, and what it means that the turns of a process are such a procedure, one access at a time.
-use Prim.Native.Nat.{ℕ, zero, suc, _+_, _≤_, _<_}
+use Prim.Native.Nat.{ℕ, zero, suc, _+_, _<_}
 use mathlib.Core.Path.{_≡_}
 use mathlib.Core.Bool.{Bool, true, false, cond}
 use mathlib.Core.List.{List}
-use mathlib.Core.Option.{Option, none, some}
-use lib.ListN.{length, take, replicate}
+use mathlib.Core.Option.{none, some}
+use lib.ListN.{length, replicate}
 use lib.Dec.{eqb}
 use Rattle.snapshot.specs.Lists.{over, each, everyFrom}
 use Rattle.snapshot.specs.Demand.{Result}
@@ -24,6 +24,9 @@ pub record Triple : Type 0 where
   pub content : ℕ
   pub seq : ℕ
   pub view : List ℕ
+
+abbrev pub zeroTriple : ℕ → Triple
+zeroTriple n = record { content = 0; seq = 0; view = replicate n 0 }
 
 -- an array indexed by process, from 0
 abbrev pub Array : Type 0 → Type 0
@@ -91,9 +94,7 @@ module _ (o : Order) (n : ℕ) (finish : ℕ → List ℕ → Procedure) where
 
   -- line 0: for j = 1 to n do moved[j] := 0; a place that was not read yet is 0
   unfoldable pub scan : ℕ → Procedure
-  scan k =
-      let zeros : Triple = record { content = 0; seq = 0; view = replicate n 0 } in
-      rounds k (λ j. 0) (λ j. zeros) (λ j. zeros)
+  scan k = rounds k (λ j. 0) (λ j. zeroTriple n) (λ j. zeroTriple n)
 
 -- update, by a process whose register's seq is s: line 1, s[1..n] := scan; line 2, r := (data, r.seq + 1, s[1..n])
 unfoldable pub update : Order → ℕ → ℕ → (word s : ℕ) → Procedure

@@ -1,11 +1,11 @@
 -- The record of a process (document 01: a desk's record), and what a call and an answer do to it.
 use Prim.Native.Nat.{ℕ}
-use mathlib.Core.List.{List, []}
+use mathlib.Core.List.{[]}
 use lib.ListN.{replicate}
 use Rattle.snapshot.specs.Lists.{over}
 use Rattle.unbounded.specs.declared.Process.{Process}
 use Rattle.unbounded.specs.declared.Task.{Task}
-use Rattle.unbounded.specs.declared.Task.the-variants.{Idle, Scan, Update, Ready}
+use Rattle.unbounded.specs.declared.Task.the-variants.{Idle}
 use Rattle.unbounded.specs.Registers.{noRegister, zeroRegister, cleared, noneMoved}
 
 -- no process: what a place that a table does not have is taken for

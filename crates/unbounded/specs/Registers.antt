@@ -1,9 +1,9 @@
 -- Registers (document 01: rows) and collects, and what a page shows of them.
-use Prim.Native.Nat.{ℕ, _%_, _*_, _+_, _-_}
-use mathlib.Core.Bool.{Bool, true, false, cond, not, _&&_}
+use Prim.Native.Nat.{ℕ}
+use mathlib.Core.Bool.{Bool, true, false, not, _&&_}
 use mathlib.Core.List.{List, [], map}
 use lib.ListN.{getD, set, take, replicate}
-use lib.Dec.{eqb, ltb}
+use lib.Dec.{eqb}
 use Rattle.snapshot.specs.Lists.{over, each}
 use Rattle.unbounded.specs.declared.Register.{Register}
 

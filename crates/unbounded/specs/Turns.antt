@@ -7,7 +7,6 @@ use lib.Dec.{eqb, ltb}
 use Rattle.snapshot.specs.Lists.{over}
 use Rattle.snapshot.specs.Verdict.{Verdict, clean, lent, again, verdict}
 use Rattle.snapshot.specs.Demand.{Result}
-use Rattle.snapshot.specs.declared.Answer.{Answer}
 use Rattle.snapshot.specs.declared.Answer.the-variants.{Read, Page, Written}
 use Rattle.unbounded.specs.declared.Register.{Register}
 use Rattle.unbounded.specs.declared.Process.{Process}
@@ -47,14 +46,14 @@ endAfter n p now end = cond (eqb (p + 1) n) now end
 
 -- ---- the decision, which is part of the same turn
 
--- after the last read of a double collect, its verdict; before that, none (2 to 4)
-unfoldable pub decision : Order → ℕ → ℕ → List Register → List Register → List Bool → Option Verdict
-decision o n p a b ms = cond (eqb (p + 1) (2 * n)) (some (verdict n (differs o a b) (lends o a b ms))) none
-
 -- of the k processes from j on, each that moved is marked (Figure 3, lines 6, 7 and 10)
 abbrev pub markFrom : (ℕ → Bool) → ℕ → ℕ → List Bool → List Bool
 markFrom moved zero j ms = ms
 markFrom moved (suc k) j ms = markFrom moved k (suc j) (cond (moved j) (withMoved ms j) ms)
+
+-- after the last read of a double collect, its verdict; before that, none (2 to 4)
+unfoldable pub decision : Order → ℕ → ℕ → List Register → List Register → List Bool → Option Verdict
+decision o n p a b ms = cond (eqb (p + 1) (2 * n)) (some (verdict n (differs o a b) (lends o a b ms))) none
 
 -- how many processes the search for a lender passes: "The first lender ends the search" (3)
 abbrev pub passed : ℕ → Option Verdict → ℕ
