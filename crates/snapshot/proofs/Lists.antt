@@ -1,14 +1,15 @@
 -- Laws of the list shapes of specs/Lists, and of counting the indices at which a test holds.
 use Prim.Native.Nat.{ℕ, zero, suc, _+_, _≤_, _<_}
 use native.Mathlib.Nat.{not-suc-le-zero}
+use native.Mathlib.Numerals.{add-one}
 use native.Mathlib.Omega.{arith}
 use native.Mathlib.Decide.{ℕ-discrete}
 use mathlib.Core.Path.{_≡_, refl, sym, ap, ap₂, _∙_}
 use mathlib.Core.Logic.{by-cases}
 use mathlib.Core.Bool.{Bool, true, false, cond, _||_, true≢false}
-use mathlib.Core.List.{List, [], _∷_, map}
+use mathlib.Core.List.{List, [], _∷_, _++_, map}
 use lib.ListN.{length, getD, take, drop, set, replicate, length-append, length-drop, List·getD-append}
-use lib.Seq.{take-at, getD-take, drop-at, ext-getD}
+use lib.Seq.{take-at, getD-take, drop-at, ext-getD, drop-cons, set-at, length-take-le, append-snoc, take-suc}
 use Rattle.snapshot.specs.Lists.{over, eachFrom, each, firstFrom, firstBelow, someOf}
 
 -- ---- the first n places of a over those of b
@@ -25,6 +26,15 @@ module _ {A : Type 0} (n : ℕ) (a b : List A) where
 
   pub getD-over : (i : ℕ) (z : A) → length (take n a) ≡ n → i < n → getD (over n a b) i z ≡ getD a i z
   getD-over i z l m = List·getD-append (take n a) (drop n b) z i (omega arith) ∙ getD-take n a i z m
+
+  -- one place more
+  pub over-more : (z : A) → n < length a → n < length b → set (over n a b) n (getD a n z) ≡ over (n + 1) a b
+  over-more z l m =
+      ap (λ t. set (take n a ++ t) n (getD a n z)) (drop-cons b n z m)
+      ∙ set-at (take n a) (getD b n z) (drop (suc n) b) (getD a n z) n (length-take-le n a (omega arith))
+      ∙ sym (append-snoc (take n a) (getD a n z) (drop (suc n) b))
+      ∙ ap (λ t. t ++ drop (suc n) b) (sym (take-suc a n z l))
+      ∙ ap (λ k. over k a b) (sym (add-one n))
 
 -- ---- each
 

@@ -53,3 +53,5 @@ pub fn most_reads(n: u32) -> u32
     let i = (n - 1) as usize;
     MOST_READS[i]
 }
+
+mod arrays;
