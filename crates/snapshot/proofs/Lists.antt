@@ -3,7 +3,7 @@ use Prim.Native.Nat.{ℕ, zero, suc, _+_, _≤_, _<_}
 use native.Mathlib.Nat.{not-suc-le-zero}
 use native.Mathlib.Numerals.{add-one}
 use native.Mathlib.Omega.{arith}
-use native.Mathlib.Decide.{ℕ-discrete}
+use native.Mathlib.Decide.{ℕ-discrete, decLt}
 use mathlib.Core.Path.{_≡_, refl, sym, ap, ap₂, _∙_}
 use mathlib.Core.Logic.{by-cases}
 use mathlib.Core.Bool.{Bool, true, false, cond, _||_, true≢false}
@@ -131,6 +131,16 @@ module _ (f : ℕ → Bool) where
 
   pub first-below-holds : (n : ℕ) → firstBelow n f < n → f (firstBelow n f) ≡ true
   first-below-holds n h = first-holds n 0 (omega arith)
+
+  -- what a loop that looks at one index after the other finds
+  pub first-below-is : (n j : ℕ) → j ≤ n → ((i : ℕ) → i < j → f i ≡ false) → (j < n → f j ≡ true) → firstBelow n f ≡ j
+  first-below-is n j l before here =
+      let top = first-below-le n in
+      by-cases (decLt (firstBelow n f) j)
+      (λ m. absurd (true≢false (sym (first-below-holds n (omega arith)) ∙ before (firstBelow n f) m)))
+      (λ m. by-cases (decLt j (firstBelow n f))
+      (λ k. absurd (true≢false (sym (here (omega arith)) ∙ first-below-before n j k)))
+      (λ k. omega arith))
 
 -- ---- counting
 

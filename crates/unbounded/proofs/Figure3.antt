@@ -17,7 +17,7 @@ use borrow.Author.Tests.{eq-eqb, ne-eqb}
 use Rattle.snapshot.specs.Lists.{over, each, everyFrom}
 use Rattle.snapshot.specs.Demand.{Result}
 use Rattle.snapshot.specs.declared.Answer.the-variants.{Read, Page, Written}
-use Rattle.snapshot.proofs.Lists.{each-cong, take-over, getD-over, getD-map-below, take-replicate, length-each}
+use Rattle.snapshot.proofs.Lists.{each-cong, take-over, getD-over, getD-map-below, take-replicate}
 use Rattle.snapshot.specs.Verdict.{Verdict, clean, lent, again, verdict}
 use Rattle.snapshot.proofs.DoubleCollect.{Ends, nobody, lender, goes-on, verdict-ends}
 use Rattle.unbounded.specs.declared.Register.{Register}
@@ -28,7 +28,7 @@ use Rattle.unbounded.specs.Registers.{noRegister, zeroRegister, value, v
 use Rattle.unbounded.specs.Processes.{begin}
 use Rattle.unbounded.specs.Turns.{position, placeAt, reads, firstAfter, secondAfter, endAfter, markFrom, passed, marksAfter, Found, found, afterRead, foundBy, scanTurn, updateTurn, written, turnedBy, turned}
 use Rattle.unbounded.specs.Figure3.{Triple, Array, assigned, Variables, Procedure, write, return, collect, search, rounds, scan, update, zeroTriple, triple, turnsOf, mark, Holds, After, Does}
-use Rattle.unbounded.proofs.Places.{trimmed, read-into-same, read-into-other, trimmed-laid}
+use Rattle.unbounded.proofs.Places.{shown-long, trimmed, read-into-same, read-into-other, trimmed-laid}
 use Rattle.unbounded.proofs.Marks.{none-moved, moved-same, moved-other}
 use Rattle.unbounded.proofs.Moved.{differs-false, differs-true, lends-differs, lends-moved, unmarked}
 use Rattle.unbounded.proofs.Reading.{place-first, place-second, first-reads, first-waits, second-reads, second-waits, decision-waits, decision-falls, Sized, sized-begin, sized-read}
@@ -64,10 +64,6 @@ module _ (n : ℕ) (o : Order) (P : Permutes n o) where
   shown-each : (x : Array Triple) (rs : List Register) → Stands x rs → each n (λ j. x j .content) ≡ shown o n rs
   unfolding shown
   shown-each x rs h = each-cong n (λ j. x j .content) (λ j. value (collectedAt o rs j)) (λ j l. ap (λ t. t .content) (h j l))
-
-shown-long : (n : ℕ) (o : Order) (rs : List Register) → length (shown o n rs) ≡ n
-unfolding shown
-shown-long n o rs = length-each n (λ j. value (collectedAt o rs j))
 
 -- ---- lines 4 to 10
 
@@ -461,7 +457,7 @@ module _ (n : ℕ) (o : Order) (P : Permutes n o) (z : 0 < n) (eight : n ≤ 8) 
           (v : Verdict) → verdict n (differs o a′ c′) (lends o a′ c′ (p .moved)) ≡ v → Ends n (differs o a′ c′) (lends o a′ c′ (p .moved)) v → Ending k
       unfolding lines y′ a′ c′
       ends k rest _ e (nobody h) =
-          finishes k (record { words = shown o n c′; instant = end′; lender = 0 }) (falls clean e) (shown-long n o c′)
+          finishes k (record { words = shown o n c′; instant = end′; lender = 0 }) (falls clean e) (shown-long o n c′)
           (ap (λ b. cond b (finishOf K s 0 (each n (λ j. y′ j .content))) (search n 0 x y′ moved (λ moved. rounds o n (finishOf K s) k moved x y′) (finishOf K s)))
           (all-same n o a′ c′ x y′ (stands-first q) (stands-second q (omega arith)) (finishOf K s) (λ moved. rounds o n (finishOf K s) k moved x y′) n 0 (omega arith) h)
           ∙ ap (finishOf K s 0) (shown-each n o P y′ c′ (stands-second q (omega arith))))

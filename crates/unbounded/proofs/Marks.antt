@@ -1,5 +1,6 @@
 -- Laws of the marks: what `withMoved` and a search that marks leave marked.
 use Prim.Native.Nat.{ℕ, zero, suc, _+_, _≤_, _<_}
+use native.Mathlib.Numerals.{add-one}
 use native.Mathlib.Omega.{arith}
 use native.Mathlib.Decide.{ℕ-discrete, decLt}
 use mathlib.Core.Path.{_≡_, refl, sym, ap, _∙_}
@@ -90,3 +91,19 @@ module _ (f : ℕ → Bool) where
       now : i ≡ j → (b : Bool) → b ≡ true → isMoved (cond b (withMoved ms j) ms) i ≡ true
       now e true q = ap (isMoved (withMoved ms j)) e ∙ moved-same ms j (omega arith)
       now e false q = absurd (false≢true q)
+
+  -- one process more
+  marks-more-from : (k j : ℕ) (ms : List Bool) →
+      let x = markFrom f k j ms in
+      markFrom f (suc k) j ms ≡ cond (f (j + k)) (withMoved x (j + k)) x
+  marks-more-from zero j ms = ap (λ i. cond (f i) (withMoved ms i) ms) (omega arith)
+  marks-more-from (suc k) j ms =
+      marks-more-from k (suc j) (cond (f j) (withMoved ms j) ms)
+      ∙ ap (λ i. let x = markFrom f (suc k) j ms in cond (f i) (withMoved x i) x) (omega arith)
+
+  pub marks-more : (k : ℕ) (ms : List Bool) →
+      let x = markFrom f k 0 ms in
+      markFrom f (k + 1) 0 ms ≡ cond (f k) (withMoved x k) x
+  marks-more k ms =
+      ap (λ i. markFrom f i 0 ms) (add-one k) ∙ marks-more-from k 0 ms
+      ∙ ap (λ i. let x = markFrom f k 0 ms in cond (f i) (withMoved x i) x) (omega arith)

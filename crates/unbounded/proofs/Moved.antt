@@ -5,7 +5,7 @@ use mathlib.Core.Logic.{_≢_}
 use mathlib.Core.Bool.{Bool, true, false, not, _&&_, true≢false, false≢true}
 use mathlib.Core.List.{List}
 use lib.Dec.{eqb}
-use borrow.Author.Tests.{eqb-true, eq-eqb}
+use borrow.Author.Tests.{eqb-true, eq-eqb, ne-eqb}
 use Rattle.unbounded.specs.declared.Register.{Register}
 use Rattle.unbounded.specs.Registers.{Order, collectedAt, differs, lends, isMoved}
 
@@ -20,6 +20,22 @@ differs-false o a b j h = go (eqb (collectedAt o a j .seq) (collectedAt o b j .s
 pub differs-true : (o : Order) (a b : List Register) (j : ℕ) → differs o a b j ≡ true → collectedAt o a j .seq ≢ collectedAt o b j .seq
 unfolding differs
 differs-true o a b j h e = false≢true (sym (ap not (eq-eqb (collectedAt o a j .seq) (collectedAt o b j .seq) e)) ∙ h)
+
+pub same-seqs : (o : Order) (a b : List Register) (j : ℕ) → collectedAt o a j .seq ≡ collectedAt o b j .seq → differs o a b j ≡ false
+unfolding differs
+same-seqs o a b j e = rw (eq-eqb (collectedAt o a j .seq) (collectedAt o b j .seq) e)
+
+pub other-seqs : (o : Order) (a b : List Register) (j : ℕ) → collectedAt o a j .seq ≢ collectedAt o b j .seq → differs o a b j ≡ true
+unfolding differs
+other-seqs o a b j e = rw (ne-eqb (collectedAt o a j .seq) (collectedAt o b j .seq) e)
+
+pub same-lends : (o : Order) (a b : List Register) (ms : List Bool) (j : ℕ) → differs o a b j ≡ false → lends o a b ms j ≡ false
+unfolding lends
+same-lends o a b ms j d = rw d
+
+pub other-lends : (o : Order) (a b : List Register) (ms : List Bool) (j : ℕ) → differs o a b j ≡ true → lends o a b ms j ≡ isMoved ms j
+unfolding lends
+other-lends o a b ms j d = rw d
 
 and-left : (a b : Bool) → (a && b) ≡ true → a ≡ true
 and-left true b h = refl

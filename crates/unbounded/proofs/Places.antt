@@ -1,13 +1,13 @@
 -- Laws of a register laid into a place: up to its first n words of view, the place then holds just that register.
 use Prim.Native.Nat.{ℕ, _<_}
-use mathlib.Core.Path.{_≡_, ap, _∙_}
+use mathlib.Core.Path.{_≡_, sym, ap, _∙_}
 use mathlib.Core.Logic.{_≢_}
 use mathlib.Core.List.{List}
 use lib.ListN.{length, getD, take, length-set}
 use lib.Seq.{getD-set-same, getD-set-other}
-use Rattle.snapshot.proofs.Lists.{take-over}
+use Rattle.snapshot.proofs.Lists.{take-over, length-each, getD-each}
 use Rattle.unbounded.specs.declared.Register.{Register}
-use Rattle.unbounded.specs.Registers.{noRegister, laid, readInto}
+use Rattle.unbounded.specs.Registers.{noRegister, value, Order, collectedAt, shown, laid, readInto}
 
 -- a register with the first n words of its view
 abbrev pub trimmed : ℕ → Register → Register
@@ -32,3 +32,14 @@ module _ (n : ℕ) (r : Register) (i : ℕ) (rs : List Register) where
   pub read-into-other : (k : ℕ) → k ≢ i → getD (readInto n r i rs) k noRegister ≡ getD rs k noRegister
   unfolding readInto
   read-into-other k h = getD-set-other rs i k (laid n r (getD rs i noRegister)) noRegister h
+
+-- ---- the page that a collect shows
+
+module _ (o : Order) (n : ℕ) (rs : List Register) where
+  pub shown-long : length (shown o n rs) ≡ n
+  unfolding shown
+  shown-long = length-each n (λ j. value (collectedAt o rs j))
+
+  pub shown-at : (j : ℕ) → j < n → value (collectedAt o rs j) ≡ getD (shown o n rs) j 0
+  unfolding shown
+  shown-at j l = sym (getD-each n (λ i. value (collectedAt o rs i)) j 0 l)
