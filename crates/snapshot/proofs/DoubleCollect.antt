@@ -2,9 +2,10 @@
 use Prim.Native.Nat.{ℕ, suc, _≤_, _<_}
 use native.Mathlib.Omega.{arith}
 use mathlib.Core.Path.{_≡_, refl}
+use mathlib.Core.Logic.{_≢_}
 use mathlib.Core.Bool.{Bool, true, false, cond}
 use lib.Dec.{eqb, ltb}
-use borrow.Author.Tests.{eqb-true, eqb-false, ltb-true, ltb-false}
+use borrow.Author.Tests.{eqb-true, eqb-false, ltb-true, ltb-false, eq-eqb, ne-eqb, lt-ltb, le-ltb}
 use Rattle.snapshot.specs.Lists.{firstBelow}
 use Rattle.snapshot.specs.Verdict.{Verdict, clean, lent, again, verdict}
 use Rattle.snapshot.proofs.Lists.{first-below-le, first-below-before, first-below-holds, below, below-less, below-missing}
@@ -35,6 +36,19 @@ module _ (n : ℕ) (moved lends : ℕ → Bool) where
           Ends (cond b clean (cond (ltb (firstBelow n lends) n) (lent (firstBelow n lends)) again))
       first true q = let e = eqb-true (firstBelow n moved) n q in nobody (λ j l. first-below-before moved n j (omega arith))
       first false q = second (eqb-false (firstBelow n moved) n q) (ltb (firstBelow n lends) n) refl
+
+  -- the verdicts, by what the two searches find
+  pub verdict-clean : firstBelow n moved ≡ n → verdict n moved lends ≡ clean
+  unfolding verdict
+  verdict-clean q = rw (eq-eqb (firstBelow n moved) n q)
+
+  pub verdict-lent : firstBelow n moved ≢ n → firstBelow n lends < n → verdict n moved lends ≡ lent (firstBelow n lends)
+  unfolding verdict
+  verdict-lent q l = rw (ne-eqb (firstBelow n moved) n q, lt-ltb (firstBelow n lends) n l)
+
+  pub verdict-again : firstBelow n moved ≢ n → n ≤ firstBelow n lends → verdict n moved lends ≡ again
+  unfolding verdict
+  verdict-again q l = rw (ne-eqb (firstBelow n moved) n q, le-ltb (firstBelow n lends) n l)
 
 -- marks that only grow, and never reach the scanning process i, are more after a double collect without a verdict, and fewer than n
 module _ (n i k : ℕ) (before after : ℕ → Bool) where

@@ -5,3 +5,4 @@ pub mod Turns
 pub mod Days
 pub mod MarkedDays
 pub mod Figure3
+pub mod Steps

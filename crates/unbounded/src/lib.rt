@@ -55,3 +55,4 @@ pub fn most_reads(n: u32) -> u32
 }
 
 mod arrays;
+mod turns;

@@ -63,12 +63,13 @@ loop-again : tie.Need-loop-again Inv-loop μ-loop
 loop-again c =
     let i = c .before .before .before .loop .i in
     let a = c .before .before .before .before .args in
-    let f = laid (a .n) zeroRegister in
-    (omega arith,
-    ap (λ l. set l i (c .lay .result)) (c .before .before .before .loop .inv .1)
-    ∙ ap (λ v. set (over i (map f (a .t2)) (a .t2)) i v)
-    (c .lay .ensures ∙ sym (getD-map-below f (a .t2) i noRegister noRegister (omega arith)))
-    ∙ over-more i (map f (a .t2)) (a .t2) noRegister (let q = length-map (a .t2) f in omega arith) (omega arith))
+    let f = laid (a .n) zeroRegister in (
+      omega arith,
+      ap (λ l. set l i (c .lay .result)) (c .before .before .before .loop .inv .1)
+          ∙ ap (λ v. set (over i (map f (a .t2)) (a .t2)) i v)
+          (c .lay .ensures ∙ sym (getD-map-below f (a .t2) i noRegister noRegister (omega arith)))
+          ∙ over-more i (map f (a .t2)) (a .t2) noRegister (let q = length-map (a .t2) f in omega arith) (omega arith),
+    )
 
 -- src/arrays.rt:41:1
 returns : tie.Need-returns Inv-loop μ-loop

@@ -72,12 +72,14 @@ loop-again : tie.Need-loop-again Inv-loop μ-loop
 unfolding isMoved
 loop-again c =
     let a = c .before .before .before .args in
-    let l = c .before .before .loop in
-    (omega arith, below-more _ (l .j) (l .inv .1)
-    (⊎-elim
-    (λ w. other-lends ascending (a .t2) (a .t3) (a .t4) (l .j) (other-seqs ascending (a .t2) (a .t3) (l .j) (w .0 .taken)) ∙ w .1 .left)
-    (λ w. same-lends ascending (a .t2) (a .t3) (a .t4) (l .j) (same-seqs ascending (a .t2) (a .t3) (l .j) (w .left)))
-    (c .if1 .came)))
+    let l = c .before .before .loop in (
+      omega arith,
+      below-more _ (l .j) (l .inv .1)
+          (⊎-elim
+          (λ w. other-lends ascending (a .t2) (a .t3) (a .t4) (l .j) (other-seqs ascending (a .t2) (a .t3) (l .j) (w .0 .taken)) ∙ w .1 .left)
+          (λ w. same-lends ascending (a .t2) (a .t3) (a .t4) (l .j) (same-seqs ascending (a .t2) (a .t3) (l .j) (w .left)))
+          (c .if1 .came)),
+    )
 
 -- src/arrays.rt:77:1
 returns-2 : tie.Need-returns-2 Inv-loop μ-loop

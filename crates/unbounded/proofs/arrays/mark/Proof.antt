@@ -64,14 +64,15 @@ loop-again c =
     let a = c .before .before .before .args in
     let l = c .before .before .loop in
     let f = differs ascending (a .t2) (a .t3) in
-    let y = markFrom f (l .j) 0 (a .ms) in
-    (omega arith,
-    ⊎-elim
-    (λ w. w .1 ∙ ap (λ x. set x (l .j) true) (l .inv .1)
-    ∙ sym (marks-more f (l .j) (a .ms) ∙ ap (λ t. cond t (withMoved y (l .j)) y) (other-seqs ascending (a .t2) (a .t3) (l .j) (w .0 .taken))))
-    (λ w. w .1 ∙ l .inv .1
-    ∙ sym (marks-more f (l .j) (a .ms) ∙ ap (λ t. cond t (withMoved y (l .j)) y) (same-seqs ascending (a .t2) (a .t3) (l .j) (w .0 .left))))
-    (c .if1 .came))
+    let y = markFrom f (l .j) 0 (a .ms) in (
+      omega arith,
+      ⊎-elim
+          (λ w. w .1 ∙ ap (λ x. set x (l .j) true) (l .inv .1)
+          ∙ sym (marks-more f (l .j) (a .ms) ∙ ap (λ t. cond t (withMoved y (l .j)) y) (other-seqs ascending (a .t2) (a .t3) (l .j) (w .0 .taken))))
+          (λ w. w .1 ∙ l .inv .1
+          ∙ sym (marks-more f (l .j) (a .ms) ∙ ap (λ t. cond t (withMoved y (l .j)) y) (same-seqs ascending (a .t2) (a .t3) (l .j) (w .0 .left))))
+          (c .if1 .came),
+    )
 
 -- src/arrays.rt:94:1
 returns : tie.Need-returns Inv-loop μ-loop

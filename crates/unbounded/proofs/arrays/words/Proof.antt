@@ -59,11 +59,12 @@ loop-again : tie.Need-loop-again Inv-loop μ-loop
 loop-again c =
     let a = c .before .before .args in
     let l = c .before .loop in
-    let s = shown ascending (a .n) (a .t2) in
-    (omega arith,
-    ap (λ x. set x (l .j) (value (getD (a .t2) (l .j) noRegister))) (l .inv .1)
-    ∙ ap (λ v. set (over (l .j) s (replicate 8 0)) (l .j) v) (shown-at ascending (a .n) (a .t2) (l .j) (omega arith))
-    ∙ over-more (l .j) s (replicate 8 0) 0 (let q = shown-long ascending (a .n) (a .t2) in omega arith) (omega arith))
+    let s = shown ascending (a .n) (a .t2) in (
+      omega arith,
+      ap (λ x. set x (l .j) (value (getD (a .t2) (l .j) noRegister))) (l .inv .1)
+          ∙ ap (λ v. set (over (l .j) s (replicate 8 0)) (l .j) v) (shown-at ascending (a .n) (a .t2) (l .j) (omega arith))
+          ∙ over-more (l .j) s (replicate 8 0) 0 (let q = shown-long ascending (a .n) (a .t2) in omega arith) (omega arith),
+    )
 
 -- src/arrays.rt:110:1
 returns : tie.Need-returns Inv-loop μ-loop

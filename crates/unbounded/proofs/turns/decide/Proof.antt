@@ -1,0 +1,111 @@
+-- `unbounded::turns::decide` meets its contract: each way out is a verdict.
+use Prim.Native.Nat.{_≤_, _<_, _+_}
+use mathlib.Core.Path.{_≡_, refl, sym, ap, _∙_}
+use mathlib.Core.Logic.{_≢_}
+use mathlib.Core.Bool.{true}
+use Rattle.snapshot.specs.Verdict.{lent}
+use native.Mathlib.Omega.{arith}
+use lib.ListN.{getD, replicate}
+use Rattle.snapshot.specs.Lists.{over, firstBelow}
+use Rattle.snapshot.proofs.Lists.{over-take}
+use Rattle.snapshot.proofs.DoubleCollect.{verdict-clean, verdict-lent, verdict-again}
+use Rattle.unbounded.specs.Registers.{noRegister, ascending, differs, lends}
+use Rattle.unbounded.specs.Steps.{verdictFind}
+use Rattle.unbounded.specs.declared.turns.Find.{Find}
+use borrow.Author.Needs.{needs}
+use Rattle.unbounded.proofs.turns.decide.Statement.{statement}
+use Rattle.unbounded.proofs.turns.decide.Tie as tie
+use Rattle.unbounded.proofs.turns.decide.Reads as reads
+use Rattle.unbounded.proofs.turns.decide.Lts as lts
+use Rattle.unbounded.proofs.arrays.first_lender.Reads as first-lender-reads
+use Rattle.unbounded.proofs.arrays.first_moved.Reads as first-moved-reads
+use Rattle.unbounded.proofs.arrays.over_words.Reads as over-words-reads
+use Rattle.unbounded.proofs.arrays.words.Reads as words-reads
+use Rattle.unbounded.proofs.turns.nothing.Reads as nothing-reads
+
+-- src/turns.rt:129:8
+first-moved-requires : tie.Need-first-moved-requires
+first-moved-requires c κs = search needs
+
+-- src/turns.rt:133:20
+words-requires : tie.Need-words-requires
+words-requires c κs = search needs
+
+-- src/turns.rt:130:9
+returns : tie.Need-returns
+returns c =
+    let a = c .before .before .before .args in
+    let d = differs ascending (a .a) (a .t4) in
+    let l = lends ascending (a .a) (a .t4) (a .moved) in
+    rw (c .words .ensures) (sym (ap (verdictFind (a .n) (a .end) (a .t4)) (verdict-clean (a .n) d l (sym (c .before .before .first-moved .ensures) ∙ c .before .if1 .taken))))
+
+-- src/turns.rt:138:9
+first-lender-requires : tie.Need-first-lender-requires
+first-lender-requires c κs = search needs
+
+-- src/turns.rt:140:9
+nothing-requires : tie.Need-nothing-requires
+nothing-requires c κs = search needs
+
+-- src/turns.rt:140:9
+returns-2 : tie.Need-returns-2
+returns-2 c =
+    let a = c .before .before .before .before .before .args in
+    let d = differs ascending (a .a) (a .t4) in
+    let l = lends ascending (a .a) (a .t4) (a .moved) in
+    c .nothing .ensures
+    ∙ sym (ap (verdictFind (a .n) (a .end) (a .t4)) (verdict-again (a .n) d l
+    (λ q. c .before .before .before .if1 .left (c .before .before .before .before .first-moved .ensures ∙ q))
+    (let e = c .before .before .first-lender .ensures in let g = c .before .if2 .taken in omega arith)))
+
+-- src/turns.rt:142:16
+mul-lent : tie.Need-mul-lent
+mul-lent c = search needs
+
+-- src/turns.rt:142:16
+array-copy-out-lent : tie.Need-array-copy-out-lent
+array-copy-out-lent c = search needs
+
+-- src/turns.rt:148:16
+over-words-requires : tie.Need-over-words-requires
+over-words-requires c κs = search needs
+
+-- src/turns.rt:150:18
+add-t11 : tie.Need-add-t11
+add-t11 c = search needs
+
+-- src/turns.rt:150:17
+cast-t20 : tie.Need-cast-t20
+cast-t20 c = search needs
+
+-- src/turns.rt:125:1
+returns-3 : tie.Need-returns-3
+returns-3 c =
+    let a = c .before .before .before .before .before .before .before .args in
+    let d = differs ascending (a .a) (a .t4) in
+    let l = lends ascending (a .a) (a .t4) (a .moved) in
+    let j = c .before .before .before .before .first-lender .result in
+    let r = getD (a .t4) j noRegister in
+    ap (λ w. record { found = true; passed = j; words = w; at = r .at; lender = j + 1 })
+    (c .over-words .ensures ∙ sym (over-take (a .n) (r .view) (replicate 8 0)))
+    ∙ ap (λ i. verdictFind (a .n) (a .end) (a .t4) (lent i)) (c .before .before .before .before .first-lender .ensures)
+    ∙ sym (ap (verdictFind (a .n) (a .end) (a .t4)) (verdict-lent (a .n) d l
+    (λ q. c .before .before .before .before .before .if1 .left (c .before .before .before .before .before .before .first-moved .ensures ∙ q))
+    (let e = c .before .before .before .before .first-lender .ensures in let g = c .before .before .before .if2 .left in omega arith)))
+
+pub decide-spec : {M : Type 1} → statement M
+decide-spec =
+    tie.close
+    (tie.spec
+    first-moved-requires
+    words-requires
+    returns
+    first-lender-requires
+    nothing-requires
+    returns-2
+    mul-lent
+    array-copy-out-lent
+    over-words-requires
+    add-t11
+    cast-t20
+    returns-3)

@@ -1,0 +1,75 @@
+-- `unbounded::turns::find_page` meets its contract: a decision falls only at the end of a double collect.
+use Prim.Native.Nat.{_≤_, _<_, _+_, _*_}
+use mathlib.Core.Path.{_≡_, refl, sym, ap, ap₂, _∙_}
+use native.Mathlib.Omega.{arith}
+use Rattle.unbounded.specs.Registers.{ascending, differs, lends}
+use Rattle.unbounded.specs.Turns.{firstAfter, secondAfter, endAfter, decision}
+use Rattle.unbounded.specs.Steps.{decisionFind, verdictFind, findOf}
+use Rattle.snapshot.specs.Verdict.{verdict}
+use Rattle.unbounded.proofs.Reading.{first-waits, end-waits, decision-waits, decision-falls}
+use borrow.Author.Needs.{needs}
+use Rattle.unbounded.proofs.turns.find_page.Statement.{statement}
+use Rattle.unbounded.proofs.turns.find_page.Tie as tie
+use Rattle.unbounded.proofs.turns.find_page.Reads as reads
+use Rattle.unbounded.proofs.turns.find_page.Lts as lts
+use Rattle.unbounded.proofs.turns.decide.Reads as decide-reads
+use Rattle.unbounded.proofs.turns.nothing.Reads as nothing-reads
+use Rattle.unbounded.proofs.turns.read_second.Reads as read-second-reads
+
+-- src/turns.rt:101:8
+add-if1 : tie.Need-add-if1
+add-if1 c = search needs
+
+-- src/turns.rt:101:19
+mul-if1 : tie.Need-mul-if1
+mul-if1 c = search needs
+
+-- src/turns.rt:102:9
+nothing-requires : tie.Need-nothing-requires
+nothing-requires c κs = search needs
+
+-- src/turns.rt:102:9
+returns : tie.Need-returns
+unfolding findOf
+returns c =
+    let a = c .before .before .args in
+    let x = firstAfter (a .n) (a .pos) (a .r) (a .p .first) in
+    let y = secondAfter (a .n) (a .pos) (a .r) (a .p .second) in
+    c .nothing .ensures
+    ∙ sym (ap (decisionFind (a .n) (endAfter (a .n) (a .pos) (a .now) (a .p .«first_end»)) y)
+    (decision-waits (a .n) ascending (a .pos) x y (a .p .moved) (c .before .if1 .taken)))
+
+-- src/turns.rt:107:9
+read-second-requires : tie.Need-read-second-requires
+read-second-requires c κs = search needs
+
+-- src/turns.rt:108:5
+decide-requires : tie.Need-decide-requires
+decide-requires c κs = search needs
+
+-- src/turns.rt:97:1
+returns-2 : tie.Need-returns-2
+unfolding findOf
+returns-2 c =
+    let a = c .before .before .before .before .before .before .args in
+    let p = a .p in
+    let x = firstAfter (a .n) (a .pos) (a .r) (p .first) in
+    let y = secondAfter (a .n) (a .pos) (a .r) (p .second) in
+    let last = c .before .before .before .before .before .if1 .left in
+    c .decide .ensures
+    ∙ ap (λ b. verdictFind (a .n) (p .«first_end») b (verdict (a .n) (differs ascending (p .first) b) (lends ascending (p .first) b (p .moved)))) (c .before .read-second .ensures)
+    ∙ ap (λ z. verdictFind (a .n) (p .«first_end») y (verdict (a .n) (differs ascending z y) (lends ascending z y (p .moved)))) (sym (first-waits (a .n) (a .r) (a .pos) (p .first) (omega arith)))
+    ∙ ap (λ e. verdictFind (a .n) e y (verdict (a .n) (differs ascending x y) (lends ascending x y (p .moved)))) (sym (end-waits (a .n) (a .pos) (a .now) (p .«first_end») (λ q. omega arith)))
+    ∙ sym (ap (decisionFind (a .n) (endAfter (a .n) (a .pos) (a .now) (p .«first_end»)) y) (decision-falls (a .n) ascending (a .pos) x y (p .moved) last))
+
+pub find-page-spec : {M : Type 1} → statement M
+find-page-spec =
+    tie.close
+    (tie.spec
+    add-if1
+    mul-if1
+    nothing-requires
+    returns
+    read-second-requires
+    decide-requires
+    returns-2)

@@ -1,0 +1,80 @@
+-- What the functions on one process record compute, step by step, for registers read in ascending order. That together they are a
+-- turn of `Turns` is proved (proofs/Steps).
+use Prim.Native.Nat.{ℕ, _+_}
+use mathlib.Core.Bool.{Bool, true, false}
+use mathlib.Core.List.{List}
+use mathlib.Core.Option.{Option, none, some}
+use lib.ListN.{replicate}
+use Rattle.snapshot.specs.Lists.{over}
+use Rattle.snapshot.specs.Verdict.{Verdict}
+use Rattle.snapshot.specs.declared.Answer.{Answer}
+use Rattle.snapshot.specs.declared.Answer.the-variants.{Read, Page, Written}
+use Rattle.unbounded.specs.declared.Register.{Register}
+use Rattle.unbounded.specs.declared.Process.{Process}
+use Rattle.unbounded.specs.declared.turns.Find.{Find}
+use Rattle.unbounded.specs.declared.Task.{Task}
+use Rattle.unbounded.specs.declared.Task.the-variants.{Idle, Scan, Update, Ready}
+use Rattle.unbounded.specs.Registers.{ascending, differs}
+use Rattle.unbounded.specs.Processes.{begin}
+use Rattle.unbounded.specs.Turns.{firstAfter, secondAfter, endAfter, decision, markFrom, passed, Found, found, written, withRegister}
+
+-- what a turn found, as the code holds it: the words in eight places, 0 where there are none
+abbrev pub findFrom : ℕ → ℕ → Option Found → Find
+findFrom n k none = record { found = false; passed = k; words = replicate 8 0; at = 0; lender = 0 }
+findFrom n k (some f) =
+    record { found = true; passed = k; words = over n (f .words) (replicate 8 0); at = f .instant; lender = f .lender }
+
+-- what a decision finds, from the second collect and the end of the first
+abbrev pub decisionFind : ℕ → ℕ → List Register → Option Verdict → Find
+decisionFind n end b v = findFrom n (passed n v) (found ascending n b end v)
+
+abbrev pub verdictFind : ℕ → ℕ → List Register → Verdict → Find
+verdictFind n end b v = decisionFind n end b (some v)
+
+-- what the read of r at position pos, by the turn numbered now, finds
+unfoldable pub findOf : ℕ → ℕ → ℕ → Register → Process → Find
+findOf n now pos r p =
+    let a = firstAfter n pos r (p .first) in
+    let b = secondAfter n pos r (p .second) in
+    decisionFind n (endAfter n pos now (p .«first_end»)) b (decision ascending n pos a b (p .moved))
+
+-- the record p with task k and view v once r is read, where the search for a lender passed the given number of processes
+unfoldable pub readBy : ℕ → ℕ → ℕ → Register → Process → ℕ → Task → List ℕ → Process
+readBy n now pos r p passed k v =
+    let a = firstAfter n pos r (p .first) in
+    let b = secondAfter n pos r (p .second) in
+    record {
+      register = p .register;
+      task = k;
+      first = a;
+      second = b;
+      «first_end» = endAfter n pos now (p .«first_end»);
+      view = v;
+      moved = markFrom (differs ascending a b) passed 0 (p .moved);
+    }
+
+abbrev pub scanBy : ℕ → ℕ → ℕ → Register → Process → Find → ℕ → Bool → Process
+scanBy n now pos r p f t true = begin n Idle p
+scanBy n now pos r p f t false = readBy n now pos r p (f .passed) (Scan (t + 1)) (p .view)
+
+abbrev pub updateBy : ℕ → ℕ → ℕ → Register → Process → Find → ℕ → ℕ → Bool → Process
+updateBy n now pos r p f w t true = readBy n now pos r p (f .passed) (Ready w (f .at) (t + 1)) (over n (f .words) (p .view))
+updateBy n now pos r p f w t false = readBy n now pos r p (f .passed) (Update w (t + 1)) (p .view)
+
+-- the record after a turn that found f
+abbrev pub stateBy : ℕ → ℕ → ℕ → Register → Process → Find → Task → Process
+stateBy n now pos r p f Idle = p
+stateBy n now pos r p f (Scan t) = scanBy n now pos r p f t (f .found)
+stateBy n now pos r p f (Update w t) = updateBy n now pos r p f w t (f .found)
+stateBy n now pos r p f (Ready w at t) = begin n Idle (withRegister (written n w at p) p)
+
+abbrev pub pageOr : Find → ℕ → Bool → Answer
+pageOr f t true = Page (f .lender) (f .at) (t + 1)
+pageOr f t false = Read
+
+-- the answer of a turn that found f
+abbrev pub answerBy : Find → Task → Answer
+answerBy f Idle = Read
+answerBy f (Scan t) = pageOr f t (f .found)
+answerBy f (Update w t) = Read
+answerBy f (Ready w at t) = Written (t + 1)
