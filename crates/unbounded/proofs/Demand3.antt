@@ -29,7 +29,7 @@ use Rattle.unbounded.specs.declared.Task.the-variants.{Idle, Scan, Updat
 use Rattle.unbounded.specs.Registers.{value, Order, ascending}
 use Rattle.unbounded.specs.Processes.{noProcess, zeroProcess, begin}
 use Rattle.unbounded.specs.Turns.{reads, turned, turnedBy}
-use Rattle.unbounded.specs.Days.{State, Item, openFor, updateCall, scanCall, turnOf, processOf, mostReads, mostTurns, isFull, overdue, unsound, cannotArise, isIdle, outside, openingCauses, causes, callCauses, turnCauses, refusal, advance, openedBy, calledBy, registerRead, turnBy, accept, sees, method, openedFor}
+use Rattle.unbounded.specs.Days.{State, Item, openFor, updateCall, scanCall, turnOf, processOf, mostReads, mostTurns, isFull, overdue, unsound, cannotArise, someUnsound, isIdle, outside, openingCauses, causes, callCauses, turnCauses, refusal, advance, openedBy, calledBy, registerRead, turnBy, accept, sees, method, openedFor}
 use Rattle.unbounded.proofs.Scans.{Permutes}
 use Rattle.unbounded.proofs.Scanning.{scanning-patient}
 use Rattle.unbounded.proofs.Machine.{processAt, registerAt, pageAt, Past, page-shows, Tie, Ties, next-event, others-tied}
@@ -97,8 +97,7 @@ module _ (n : ℕ) (o : Order) (P : Permutes n o) (z : 0 < n) (eight : n ≤ 8) 
         ap₂ _||_ (le-ltb e (processAt H i e .register .seq) s)
         (ap₂ _||_ (le-ltb e (processAt H i e .register .at) p) (not-overdue i b (processAt H i e .task) (open-call i) (T i b .tie)))
 
-    can-arise : cannotArise (H e .day) (H e .table) ≡ false
-    unfolding cannotArise
+    can-arise : cannotArise (H e .day) (someUnsound (H e)) ≡ false
     can-arise =
         let c = A .count in
         let l = A .limit in

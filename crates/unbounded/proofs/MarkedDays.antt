@@ -6,9 +6,9 @@ use Rattle.snapshot.specs.Verdict.{verdict}
 use Rattle.unbounded.specs.Registers.{laid, readInto, cleared, shown, differs, isMoved, withMoved, lends}
 use Rattle.unbounded.specs.Processes.{begin}
 use Rattle.unbounded.specs.Turns.{position, placeAt, firstAfter, secondAfter, endAfter, decision, marksAfter, afterRead, foundBy, written, turned}
-use Rattle.unbounded.specs.Days.{mostReads, isFull, unsound, cannotArise, refusal, advance, openedBy, calledBy, turnBy, accept}
+use Rattle.unbounded.specs.Days.{mostReads, isFull, unsound, refusal, advance, openedBy, calledBy, turnBy, accept}
 use Rattle.unbounded.specs.MarkedDays.{played, markedDays}
 
 pub marked-days-follow : map played markedDays ≡ map (λ d. d .expected) markedDays
-unfolding markedDays step verdict laid readInto cleared shown differs isMoved withMoved lends begin position placeAt firstAfter secondAfter endAfter decision marksAfter afterRead foundBy written turned mostReads isFull unsound cannotArise refusal advance openedBy calledBy turnBy accept
+unfolding markedDays step verdict laid readInto cleared shown differs isMoved withMoved lends begin position placeAt firstAfter secondAfter endAfter decision marksAfter afterRead foundBy written turned mostReads isFull unsound refusal advance openedBy calledBy turnBy accept
 marked-days-follow = refl

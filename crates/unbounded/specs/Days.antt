@@ -1,7 +1,7 @@
 -- The day: openings, calls and turns on any day, table and page list, with their refusals (document 01).
 use Prim.Native.Nat.{ℕ, _+_, _-_, _*_}
 use mathlib.Core.Bool.{Bool, true, false, cond, not, _||_}
-use mathlib.Core.List.{List, [], _∷_, map}
+use mathlib.Core.List.{List, [], _∷_, _++_, map}
 use mathlib.Core.Option.{Option, none, some}
 use lib.ListN.{length, getD, set}
 use lib.Dec.{eqb, leb, ltb}
@@ -74,8 +74,11 @@ unfoldable pub unsound : ℕ → ℕ → Process → Bool
 unsound most e p = ltb e (p .register .seq) || (ltb e (p .register .at) || overdue most (p .task))
 
 -- "if the desk count is above 8, the event number above 65,535, or if in any of the n records .."
-unfoldable pub cannotArise : Day → List Process → Bool
-cannotArise d ps = ltb 8 (d .count) || (ltb 65535 (d .event) || someOf (unsound (mostReads (d .count)) (d .event)) ps)
+abbrev pub cannotArise : Day → Bool → Bool
+cannotArise d bad = ltb 8 (d .count) || (ltb 65535 (d .event) || bad)
+
+abbrev pub someUnsound : State → Bool
+someUnsound s = someOf (unsound (mostReads (s .day .count)) (s .day .event)) (s .table)
 
 -- ---- refusals, in the order of document 01
 
@@ -85,24 +88,30 @@ isIdle (Scan t) = false
 isIdle (Update w t) = false
 isIdle (Ready w at t) = false
 
--- "Order for opening: 10, 1, 6"
+-- "Order for opening: 10, 1, 6 (the table must have the asked number of records)"
+abbrev pub openingChecks : Day → ℕ → ℕ → List Cause
+openingChecks d size k = (not (eqb (d .count) 0), OpenState) ∷ (outside 1 8 k, CountRange) ∷ (not (eqb size k), LentSize) ∷ []
+
 abbrev pub openingCauses : State → ℕ → List Cause
-openingCauses s k =
-    (not (eqb (s .day .count) 0), OpenState)
-    ∷ (outside 1 8 k, CountRange)
-    ∷ (not (eqb (length (s .table)) k), LentSize)
+openingCauses s k = openingChecks (s .day) (length (s .table)) k
+
+-- "For calls and turns: 10, 6, 11, 2, then 3 or 4, then 5": of process d, by the size of the table, whether the page list is short
+-- and whether some record cannot have arisen; then whether the process is in the wrong state, with 3 or 4, and the event number
+abbrev pub firstCauses : Day → ℕ → Bool → Bool → ℕ → List Cause
+firstCauses d size short bad i =
+    (eqb (d .count) 0, OpenState)
+    ∷ (not (eqb size (d .count)) || short, LentSize)
+    ∷ (cannotArise d bad, CannotArise)
+    ∷ (outside 1 (d .count) i, ProcessRange)
     ∷ []
 
--- "For calls and turns: 10, 6, 11, 2, then 3 or 4, then 5": of process d, where the page list is short or not, and 3 or 4
+abbrev pub lastCauses : Bool → Refusal → ℕ → List Cause
+lastCauses wrong k event = (wrong, k) ∷ (isFull event, DayFull) ∷ []
+
 abbrev pub causes : State → ℕ → Bool → Cause → List Cause
-causes s d short state =
-    (eqb (s .day .count) 0, OpenState)
-    ∷ (not (eqb (length (s .table)) (s .day .count)) || short, LentSize)
-    ∷ (cannotArise (s .day) (s .table), CannotArise)
-    ∷ (outside 1 (s .day .count) d, ProcessRange)
-    ∷ state
-    ∷ (isFull (s .day .event), DayFull)
-    ∷ []
+causes s i short state =
+    firstCauses (s .day) (length (s .table)) short (someUnsound s) i
+    ++ lastCauses (state .0) (state .1) (s .day .event)
 
 abbrev pub callCauses : State → ℕ → List Cause
 callCauses s d = causes s d false (not (isIdle (processOf (s .table) d .task)), Busy)

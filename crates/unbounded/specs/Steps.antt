@@ -12,6 +12,9 @@ use Rattle.snapshot.specs.declared.Answer.the-variants.{Read, Page, Written}
 use Rattle.unbounded.specs.declared.Register.{Register}
 use Rattle.unbounded.specs.declared.Process.{Process}
 use Rattle.unbounded.specs.declared.turns.Find.{Find}
+use Rattle.snapshot.specs.declared.Refusal.{Refusal}
+use Rattle.unbounded.specs.declared.checks.Check.{Check}
+use Rattle.unbounded.specs.declared.checks.Check.the-variants.{Passed, Refused}
 use Rattle.unbounded.specs.declared.Task.{Task}
 use Rattle.unbounded.specs.declared.Task.the-variants.{Idle, Scan, Update, Ready}
 use Rattle.unbounded.specs.Registers.{ascending, differs}
@@ -78,3 +81,8 @@ answerBy f Idle = Read
 answerBy f (Scan t) = pageOr f t (f .found)
 answerBy f (Update w t) = Read
 answerBy f (Ready w at t) = Written (t + 1)
+
+-- what a check says
+abbrev pub asOption : Check → Option Refusal
+asOption Passed = none
+asOption (Refused k) = some k

@@ -55,4 +55,5 @@ pub fn most_reads(n: u32) -> u32
 }
 
 mod arrays;
+mod checks;
 mod turns;
