@@ -96,6 +96,22 @@ pub some-of-none : {A : Type 0} (f : A → Bool) (l : List A) (z : A) → ((i : 
 some-of-none f [] z h = refl
 some-of-none f (x ∷ l) z h = ap (λ b. b || someOf f l) (h 0 (omega arith)) ∙ some-of-none f l z (λ i w. h (suc i) (omega arith))
 
+-- one element more
+pub some-of-more : {A : Type 0} (f : A → Bool) (l : List A) (i : ℕ) (z : A) → i < length l →
+    someOf f (take (i + 1) l) ≡ (someOf f (take i l) || f (getD l i z))
+some-of-more {A} f l i z h =
+    ap (λ k. someOf f (take k l)) (add-one i) ∙ ap (someOf f) (take-suc l i z h) ∙ some-of-last (take i l) (getD l i z)
+  where
+    or-assoc : (a b c : Bool) → (a || (b || c)) ≡ ((a || b) || c)
+    or-assoc true b c = refl
+    or-assoc false b c = refl
+    or-last : (a : Bool) → (a || false) ≡ a
+    or-last true = refl
+    or-last false = refl
+    some-of-last : (a : List A) (x : A) → someOf f (a ++ (x ∷ [])) ≡ (someOf f a || f x)
+    some-of-last [] x = or-last (f x)
+    some-of-last (y ∷ a) x = ap (λ b. f y || b) (some-of-last a x) ∙ or-assoc (f y) (someOf f a) (f x)
+
 -- ---- searches
 
 module _ (f : ℕ → Bool) where

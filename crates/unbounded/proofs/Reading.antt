@@ -1,5 +1,6 @@
 -- What a read does to the collects: the place it goes to, when a decision falls, and that no array changes its size.
 use Prim.Native.Nat.{ℕ, _+_, _*_, _-_, _≤_, _<_}
+use native.Mathlib.Nat.{mod-lt}
 use native.Mathlib.Omega.{arith}
 use mathlib.Core.Path.{_≡_, refl}
 use mathlib.Core.Logic.{_≢_}
@@ -17,13 +18,17 @@ use Rattle.unbounded.specs.declared.Process.{Process}
 use Rattle.unbounded.specs.declared.Task.{Task}
 use Rattle.unbounded.specs.Registers.{zeroRegister, Order, laid, cleared, readInto, differs, lends}
 use Rattle.unbounded.specs.Processes.{begin}
-use Rattle.unbounded.specs.Turns.{placeAt, firstAfter, secondAfter, endAfter, decision, passed, marksAfter, afterRead}
+use Rattle.unbounded.specs.Turns.{position, placeAt, firstAfter, secondAfter, endAfter, decision, passed, marksAfter, afterRead}
 use Rattle.unbounded.proofs.Marks.{length-marks}
 use Rattle.unbounded.proofs.Places.{length-read-into}
 
 -- ---- where a read goes
 
 module _ (n : ℕ) where
+  pub position-low : (t : ℕ) → 0 < n → position n t < 2 * n
+  unfolding position
+  position-low t z = mod-lt t {m = 2 * n} (omega arith)
+
   pub place-first : (p : ℕ) → p < n → placeAt n p ≡ p
   unfolding placeAt
   place-first p l = rw (lt-ltb p n l)

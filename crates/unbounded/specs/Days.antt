@@ -8,7 +8,7 @@ use lib.Dec.{eqb, leb, ltb}
 use Rattle.snapshot.specs.Lists.{someOf}
 use Rattle.snapshot.specs.Refusals.{Cause, firstCause}
 use Rattle.snapshot.specs.Tally.{Job, scan, update, Seen, opening, call, turn}
-use Rattle.snapshot.specs.Demand.{Method, Result}
+use Rattle.snapshot.specs.Demand.{Method, Result, step}
 use Rattle.snapshot.specs.declared.Refusal.{Refusal}
 use Rattle.snapshot.specs.declared.Refusal.the-variants.{CountRange, ProcessRange, Busy, Idle as NotBusy, DayFull, LentSize, OpenState, CannotArise}
 use Rattle.snapshot.specs.declared.Answer.the-variants.{Opened, Called}
@@ -17,7 +17,7 @@ use Rattle.unbounded.specs.declared.Process.{Process}
 use Rattle.unbounded.specs.declared.Day.{Day}
 use Rattle.unbounded.specs.declared.Task.{Task}
 use Rattle.unbounded.specs.declared.Task.the-variants.{Idle, Scan, Update, Ready}
-use Rattle.unbounded.specs.Registers.{noRegister, value, Order}
+use Rattle.unbounded.specs.Registers.{noRegister, value, Order, ascending}
 use Rattle.unbounded.specs.Processes.{noProcess, zeroProcess, begin}
 use Rattle.unbounded.specs.Turns.{reads, turned}
 
@@ -198,3 +198,7 @@ method o n =
 -- a day just opened for n processes
 unfoldable pub openedFor : ℕ → State
 openedFor n = record { day = record { count = n; event = 0 }; table = lib.ListN.replicate n zeroProcess }
+
+-- one item on any day, table and page list
+unfoldable pub stepped : State → Item → Result State
+stepped s x = step (method ascending (s .day .count)) s x

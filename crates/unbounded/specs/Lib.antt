@@ -6,3 +6,4 @@ pub mod Days
 pub mod MarkedDays
 pub mod Figure3
 pub mod Steps
+pub mod Memories

@@ -19,7 +19,7 @@ use Rattle.unbounded.specs.declared.Task.{Task}
 use Rattle.unbounded.specs.declared.Task.the-variants.{Idle, Scan, Update, Ready}
 use Rattle.unbounded.specs.Registers.{ascending, differs}
 use Rattle.unbounded.specs.Processes.{begin}
-use Rattle.unbounded.specs.Turns.{firstAfter, secondAfter, endAfter, decision, markFrom, passed, Found, found, written, withRegister}
+use Rattle.unbounded.specs.Turns.{position, firstAfter, secondAfter, endAfter, decision, markFrom, passed, Found, found, written, withRegister}
 
 -- what a turn found, as the code holds it: the words in eight places, 0 where there are none
 abbrev pub findFrom : ℕ → ℕ → Option Found → Find
@@ -81,6 +81,30 @@ answerBy f Idle = Read
 answerBy f (Scan t) = pageOr f t (f .found)
 answerBy f (Update w t) = Read
 answerBy f (Ready w at t) = Written (t + 1)
+
+abbrev pub layIf : ℕ → Find → List ℕ → Bool → List ℕ
+layIf n f page true = over n (f .words) page
+layIf n f page false = page
+
+-- the page list after a turn that found f
+abbrev pub pageBy : ℕ → Find → Task → List ℕ → List ℕ
+pageBy n f Idle page = page
+pageBy n f (Scan t) page = layIf n f page (f .found)
+pageBy n f (Update w t) page = page
+pageBy n f (Ready w at t) page = page
+
+abbrev pub isReady : Task → Bool
+isReady Idle = false
+isReady (Scan t) = false
+isReady (Update w t) = false
+isReady (Ready w at t) = true
+
+-- where the next read of a task stands in its double collect
+abbrev pub placeOf : ℕ → Task → ℕ
+placeOf n Idle = 0
+placeOf n (Scan t) = position n t
+placeOf n (Update w t) = position n t
+placeOf n (Ready w at t) = 0
 
 -- what a check says
 abbrev pub asOption : Check → Option Refusal

@@ -56,4 +56,5 @@ pub fn most_reads(n: u32) -> u32
 
 mod arrays;
 mod checks;
+pub mod memory;
 mod turns;

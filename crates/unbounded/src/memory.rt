@@ -1,0 +1,125 @@
+// A day with its table of process records, by value: opening, calls and turns. Each lends the first records of the table, as many
+// as the day has processes (an opening: as many as are asked for), and leaves the others.
+use crate::Day;
+use crate::Process;
+use crate::Register;
+use crate::Task;
+use crate::checks;
+use crate::checks::Check;
+use crate::turns;
+use crate::turns::Find;
+use snapshot::Answer;
+use snapshot::Refusal;
+ghost use mathlib.Core.Path.{_≡_};
+ghost use mathlib.Core.Option.{none};
+ghost use Prim.Native.Nat.{_+_, _*_, _-_, _≤_, _<_};
+ghost use lib.ListN.{length, getD, take};
+ghost use lib.Dec.{ltb};
+ghost use Rattle.snapshot.specs.Lists.{over, someOf};
+ghost use Rattle.snapshot.specs.Refusals.{firstCause};
+ghost use Rattle.unbounded.specs.Days.{unsound, callCauses, turnCauses, stepped};
+ghost use Rattle.unbounded.specs.Figure3.{turnsOf};
+ghost use Rattle.unbounded.specs.Steps.{asOption, pageBy, isReady, placeOf};
+ghost use Rattle.unbounded.specs.Memories.{lentBy, sizeOf, finished};
+
+// The day and eight records, of which as many are lent as the day has processes.
+pub struct Memory {
+    pub day: Day,
+    pub table: [Process; 8],
+}
+
+// A memory after an item, and the item's answer.
+pub struct Stepped {
+    pub memory: Memory,
+    pub answer: Answer,
+}
+
+// How many of eight records are lent where n are asked for.
+pub fn size_of(n: u32) -> usize
+    ensures { λ r. ⌜ r ≡ sizeOf n ⌝ }
+{
+    if n < 8 { n as usize } else { 8 }
+}
+
+// Whether some of the first n records cannot have arisen at event number e.
+pub fn some_bad(n: usize, most: u32, e: u32, table: [Process; 8]) -> bool
+    requires { ⌜ n ≤ 8 ⌝ }
+    ensures { λ b. ⌜ b ≡ someOf (unsound most e) (take n table) ⌝ }
+{
+    let mut bad = false;
+    let mut i = 0;
+    while i < n {
+        let p = table[i];
+        bad = checks::bad_after(bad, most, e, p);
+        i += 1;
+    }
+    bad
+}
+
+// Whether a task is an update that is ready to write.
+pub fn is_ready(k: Task) -> bool
+    ensures { λ b. ⌜ b ≡ isReady k ⌝ }
+{
+    match k {
+        Task::Idle => false,
+        Task::Scan { turns: _ } => false,
+        Task::Update { word: _, turns: _ } => false,
+        Task::Ready {
+            word: _,
+            at: _,
+            turns: _,
+        } => true,
+    }
+}
+
+// Where the next read of a task stands in its double collect.
+pub fn place_of(n: usize, k: Task) -> usize
+    requires { ⌜ (0 < n) × (n ≤ 8) ⌝ }
+    ensures { λ r. ⌜ r ≡ placeOf n k ⌝ }
+    ensures { λ r. ⌜ r < 2 * n ⌝ }
+{
+    match k {
+        Task::Idle => 0,
+        Task::Scan { turns } => turns::position_of(n, turns),
+        Task::Update { word: _, turns } => turns::position_of(n, turns),
+        Task::Ready {
+            word: _,
+            at: _,
+            turns: _,
+        } => 0,
+    }
+}
+
+// The first n of eight words laid over the first n of a list.
+pub fn lay_words(n: usize, words: [u32; 8], page: &mut [u32])
+    requires { ⌜ (n ≤ 8) × (n ≤ length (now page)) ⌝ }
+    ensures { λ r. ⌜ now (page .exit) ≡ over n words (now (page .entry)) ⌝ }
+{
+    let mut j = 0;
+    while j < n {
+        page[j] = words[j];
+        j += 1;
+    }
+}
+
+// The words of a page that a scan found, laid over the first n of the page list; any other turn leaves the list.
+pub fn lay_page(n: usize, k: Task, f: Find, page: &mut [u32])
+    requires { ⌜ (n ≤ 8) × (n ≤ length (now page)) ⌝ }
+    ensures { λ r. ⌜ now (page .exit) ≡ pageBy n f k (now (page .entry)) ⌝ }
+{
+    let words = f.words;
+    match k {
+        Task::Scan { turns: _ } => {
+            if f.found {
+                lay_words(n, words, page)
+            }
+        }
+        Task::Idle => {}
+        Task::Update { word: _, turns: _ } => {}
+        Task::Ready {
+            word: _,
+            at: _,
+            turns: _,
+        } => {}
+    }
+}
