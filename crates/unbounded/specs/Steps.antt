@@ -6,7 +6,7 @@ use mathlib.Core.List.{List}
 use mathlib.Core.Option.{Option, none, some}
 use lib.ListN.{replicate}
 use Rattle.snapshot.specs.Lists.{over}
-use Rattle.snapshot.specs.Verdict.{Verdict}
+use Rattle.snapshot.specs.Verdict.{Verdict, clean, lent, again}
 use Rattle.snapshot.specs.declared.Answer.{Answer}
 use Rattle.snapshot.specs.declared.Answer.the-variants.{Read, Page, Written}
 use Rattle.unbounded.specs.declared.Register.{Register}
@@ -17,19 +17,28 @@ use Rattle.unbounded.specs.declared.checks.Check.{Check}
 use Rattle.unbounded.specs.declared.checks.Check.the-variants.{Passed, Refused}
 use Rattle.unbounded.specs.declared.Task.{Task}
 use Rattle.unbounded.specs.declared.Task.the-variants.{Idle, Scan, Update, Ready}
-use Rattle.unbounded.specs.Registers.{ascending, differs}
+use Rattle.unbounded.specs.Registers.{ascending, collectedAt, shown, differs}
 use Rattle.unbounded.specs.Processes.{begin}
-use Rattle.unbounded.specs.Turns.{position, firstAfter, secondAfter, endAfter, decision, markFrom, passed, Found, found, written, withRegister}
+use Rattle.unbounded.specs.Turns.{position, firstAfter, secondAfter, endAfter, decision, markFrom, passed, written, withRegister}
 
--- what a turn found, as the code holds it: the words in eight places, 0 where there are none
-abbrev pub findFrom : ℕ → ℕ → Option Found → Find
-findFrom n k none = record { found = false; passed = k; words = replicate 8 0; at = 0; lender = 0 }
-findFrom n k (some f) =
-    record { found = true; passed = k; words = over n (f .words) (replicate 8 0); at = f .instant; lender = f .lender }
+-- nothing found, after a search for a lender that passed k processes
+abbrev pub nothingFound : ℕ → Find
+nothingFound k = record { found = false; passed = k; words = replicate 8 0; at = 0; lender = 0 }
 
--- what a decision finds, from the second collect and the end of the first
+-- what a decision finds, as the code holds it, from the second collect and the end of the first: eight words, of which n count
 abbrev pub decisionFind : ℕ → ℕ → List Register → Option Verdict → Find
-decisionFind n end b v = findFrom n (passed n v) (found ascending n b end v)
+decisionFind n end b none = nothingFound 0
+decisionFind n end b (some clean) =
+    record { found = true; passed = 0; words = over n (shown ascending n b) (replicate 8 0); at = end; lender = 0 }
+decisionFind n end b (some (lent j)) =
+    record {
+      found = true;
+      passed = j;
+      words = collectedAt ascending b j .view;
+      at = collectedAt ascending b j .at;
+      lender = j + 1
+    }
+decisionFind n end b (some again) = nothingFound n
 
 abbrev pub verdictFind : ℕ → ℕ → List Register → Verdict → Find
 verdictFind n end b v = decisionFind n end b (some v)

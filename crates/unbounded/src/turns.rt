@@ -8,11 +8,10 @@ ghost use mathlib.Core.Path.{_≡_};
 ghost use Prim.Native.Nat.{_+_, _*_, _≤_, _<_};
 ghost use Rattle.unbounded.specs.Processes.{begin};
 ghost use Rattle.unbounded.specs.Turns.{position, firstAfter, secondAfter, endAfter, written, withRegister};
-ghost use mathlib.Core.Option.{none};
 ghost use Rattle.snapshot.specs.Verdict.{verdict};
 ghost use Rattle.unbounded.specs.declared.Task.the-variants.{Idle};
 ghost use Rattle.unbounded.specs.Registers.{ascending, differs, lends};
-ghost use Rattle.unbounded.specs.Steps.{findFrom, verdictFind, findOf, readBy, stateBy, answerBy};
+ghost use Rattle.unbounded.specs.Steps.{nothingFound, verdictFind, findOf, readBy, stateBy, answerBy};
 ghost use Rattle.unbounded.specs.Figure3.{turnsOf};
 
 // What a turn found: a page with its instant and lender, or nothing yet; and how many processes its search for a lender passed.
@@ -110,7 +109,7 @@ pub fn find_page(n: usize, now: u32, pos: usize, r: Register, p: Process) -> Fin
 
 // Nothing found; the search for a lender passed k processes.
 pub fn nothing(k: usize) -> Find
-    ensures { λ f. ⌜ f ≡ findFrom 0 k none ⌝ }
+    ensures { λ f. ⌜ f ≡ nothingFound k ⌝ }
 {
     Find {
         found: false,
@@ -141,11 +140,10 @@ pub fn decide(n: usize, end: u32, a: [Register; 8], b: [Register; 8], moved: [bo
     }
     let lent = b[j];
     let v = lent.view;
-    let zeros = [0; 8];
     Find {
         found: true,
         passed: j,
-        words: arrays::over_words(n, v, zeros),
+        words: v,
         at: lent.at,
         lender: (j + 1) as u32,
     }

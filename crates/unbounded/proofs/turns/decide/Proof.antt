@@ -19,19 +19,18 @@ use Rattle.unbounded.proofs.turns.decide.Reads as reads
 use Rattle.unbounded.proofs.turns.decide.Lts as lts
 use Rattle.unbounded.proofs.arrays.first_lender.Reads as first-lender-reads
 use Rattle.unbounded.proofs.arrays.first_moved.Reads as first-moved-reads
-use Rattle.unbounded.proofs.arrays.over_words.Reads as over-words-reads
 use Rattle.unbounded.proofs.arrays.words.Reads as words-reads
 use Rattle.unbounded.proofs.turns.nothing.Reads as nothing-reads
 
--- src/turns.rt:129:8
+-- src/turns.rt:128:8
 first-moved-requires : tie.Need-first-moved-requires
 first-moved-requires c κs = search needs
 
--- src/turns.rt:133:20
+-- src/turns.rt:132:20
 words-requires : tie.Need-words-requires
 words-requires c κs = search needs
 
--- src/turns.rt:130:9
+-- src/turns.rt:129:9
 returns : tie.Need-returns
 returns c =
     let a = c .before .before .before .args in
@@ -39,15 +38,15 @@ returns c =
     let l = lends ascending (a .a) (a .t4) (a .moved) in
     rw (c .words .ensures) (sym (ap (verdictFind (a .n) (a .end) (a .t4)) (verdict-clean (a .n) d l (sym (c .before .before .first-moved .ensures) ∙ c .before .if1 .taken))))
 
--- src/turns.rt:138:9
+-- src/turns.rt:137:9
 first-lender-requires : tie.Need-first-lender-requires
 first-lender-requires c κs = search needs
 
--- src/turns.rt:140:9
+-- src/turns.rt:139:9
 nothing-requires : tie.Need-nothing-requires
 nothing-requires c κs = search needs
 
--- src/turns.rt:140:9
+-- src/turns.rt:139:9
 returns-2 : tie.Need-returns-2
 returns-2 c =
     let a = c .before .before .before .before .before .args in
@@ -58,40 +57,32 @@ returns-2 c =
     (λ q. c .before .before .before .if1 .left (c .before .before .before .before .first-moved .ensures ∙ q))
     (let e = c .before .before .first-lender .ensures in let g = c .before .if2 .taken in omega arith)))
 
--- src/turns.rt:142:16
+-- src/turns.rt:141:16
 mul-lent : tie.Need-mul-lent
 mul-lent c = search needs
 
--- src/turns.rt:142:16
+-- src/turns.rt:141:16
 array-copy-out-lent : tie.Need-array-copy-out-lent
 array-copy-out-lent c = search needs
 
--- src/turns.rt:148:16
-over-words-requires : tie.Need-over-words-requires
-over-words-requires c κs = search needs
+-- src/turns.rt:148:18
+add-t10 : tie.Need-add-t10
+add-t10 c = search needs
 
--- src/turns.rt:150:18
-add-t11 : tie.Need-add-t11
-add-t11 c = search needs
+-- src/turns.rt:148:17
+cast-t18 : tie.Need-cast-t18
+cast-t18 c = search needs
 
--- src/turns.rt:150:17
-cast-t20 : tie.Need-cast-t20
-cast-t20 c = search needs
-
--- src/turns.rt:125:1
+-- src/turns.rt:124:1
 returns-3 : tie.Need-returns-3
 returns-3 c =
-    let a = c .before .before .before .before .before .before .before .args in
+    let a = c .before .before .before .before .before .before .args in
     let d = differs ascending (a .a) (a .t4) in
     let l = lends ascending (a .a) (a .t4) (a .moved) in
-    let j = c .before .before .before .before .first-lender .result in
-    let r = getD (a .t4) j noRegister in
-    ap (λ w. record { found = true; passed = j; words = w; at = r .at; lender = j + 1 })
-    (c .over-words .ensures ∙ sym (over-take (a .n) (r .view) (replicate 8 0)))
-    ∙ ap (λ i. verdictFind (a .n) (a .end) (a .t4) (lent i)) (c .before .before .before .before .first-lender .ensures)
+    ap (λ i. verdictFind (a .n) (a .end) (a .t4) (lent i)) (c .before .before .before .first-lender .ensures)
     ∙ sym (ap (verdictFind (a .n) (a .end) (a .t4)) (verdict-lent (a .n) d l
-    (λ q. c .before .before .before .before .before .if1 .left (c .before .before .before .before .before .before .first-moved .ensures ∙ q))
-    (let e = c .before .before .before .before .first-lender .ensures in let g = c .before .before .before .if2 .left in omega arith)))
+    (λ q. c .before .before .before .before .if1 .left (c .before .before .before .before .before .first-moved .ensures ∙ q))
+    (let e = c .before .before .before .first-lender .ensures in let g = c .before .before .if2 .left in omega arith)))
 
 pub decide-spec : {M : Type 1} → statement M
 decide-spec =
@@ -105,7 +96,6 @@ decide-spec =
     returns-2
     mul-lent
     array-copy-out-lent
-    over-words-requires
-    add-t11
-    cast-t20
+    add-t10
+    cast-t18
     returns-3)
