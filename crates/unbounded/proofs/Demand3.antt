@@ -37,11 +37,11 @@ use Rattle.unbounded.proofs.Deeds.{tied, Deed, scan-call-deed, update-c
 
 -- ---- tests
 
-or-false : (a b : Bool) → (a || b) ≡ false → (a ≡ false) × (b ≡ false)
+pub or-false : (a b : Bool) → (a || b) ≡ false → (a ≡ false) × (b ≡ false)
 or-false true b h = absurd (true≢false h)
 or-false false b h = (refl, h)
 
-outside-among : (n d : ℕ) → outside 1 n d ≡ false → Among n d
+pub outside-among : (n d : ℕ) → outside 1 n d ≡ false → Among n d
 outside-among n d h =
     let t = or-false (ltb d 1) (ltb n d) h in
     let a = ltb-false d 1 (t .0) in

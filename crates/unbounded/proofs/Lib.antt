@@ -12,3 +12,4 @@ pub mod Demand3
 pub mod MarkedDays
 pub mod Figure3
 pub mod Steps
+pub mod Memories

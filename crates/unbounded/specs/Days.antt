@@ -113,12 +113,20 @@ causes s i short state =
     firstCauses (s .day) (length (s .table)) short (someUnsound s) i
     ++ lastCauses (state .0) (state .1) (s .day .event)
 
+-- 3 for a call of a process that is not idle, 4 for a turn of one that is
+abbrev pub stateCause : Task → Bool → Cause
+stateCause k true = (not (isIdle k), Busy)
+stateCause k false = (isIdle k, NotBusy)
+
+-- the causes to refuse a call, or a turn, of process i
+abbrev pub itemCauses : State → ℕ → Bool → Bool → List Cause
+itemCauses s i short isCall = causes s i short (stateCause (processOf (s .table) i .task) isCall)
+
 abbrev pub callCauses : State → ℕ → List Cause
-callCauses s d = causes s d false (not (isIdle (processOf (s .table) d .task)), Busy)
+callCauses s i = itemCauses s i false true
 
 abbrev pub turnCauses : State → ℕ → List ℕ → List Cause
-turnCauses s d page =
-    causes s d (ltb (length page) (s .day .count)) (isIdle (processOf (s .table) d .task), NotBusy)
+turnCauses s i page = itemCauses s i (ltb (length page) (s .day .count)) false
 
 unfoldable pub refusal : State → Item → Option Refusal
 refusal s (openFor k) = firstCause (openingCauses s k)

@@ -6,6 +6,7 @@ use crate::Register;
 use crate::Task;
 use crate::checks;
 use crate::checks::Check;
+use crate::most_reads;
 use crate::turns;
 use crate::turns::Find;
 use snapshot::Answer;
@@ -17,7 +18,7 @@ ghost use lib.ListN.{length, getD, take};
 ghost use lib.Dec.{ltb};
 ghost use Rattle.snapshot.specs.Lists.{over, someOf};
 ghost use Rattle.snapshot.specs.Refusals.{firstCause};
-ghost use Rattle.unbounded.specs.Days.{unsound, callCauses, turnCauses, stepped};
+ghost use Rattle.unbounded.specs.Days.{unsound, itemCauses, stepped};
 ghost use Rattle.unbounded.specs.Figure3.{turnsOf};
 ghost use Rattle.unbounded.specs.Steps.{asOption, pageBy, isReady, placeOf};
 ghost use Rattle.unbounded.specs.Memories.{lentBy, sizeOf, finished};
@@ -45,6 +46,7 @@ pub fn size_of(n: u32) -> usize
 pub fn some_bad(n: usize, most: u32, e: u32, table: [Process; 8]) -> bool
     requires { ⌜ n ≤ 8 ⌝ }
     ensures { λ b. ⌜ b ≡ someOf (unsound most e) (take n table) ⌝ }
+    ensures { λ b. ⌜ length table ≡ 8 ⌝ }
 {
     let mut bad = false;
     let mut i = 0;
@@ -121,5 +123,31 @@ pub fn lay_page(n: usize, k: Task, f: Find, page: &mut [u32])
             at: _,
             turns: _,
         } => {}
+    }
+}
+
+// The refusal of a call or a turn of process d, if any: whether its page list is short, and whether it is a call.
+pub fn plan(m: Memory, short: bool, d: u32, call: bool) -> Check
+    ensures { λ c. ⌜ asOption c ≡ firstCause (itemCauses (lentBy (m .day .count) m) d short call) ⌝ }
+{
+    let day = m.day;
+    let table = m.table;
+    let count = day.count;
+    let event = day.event;
+    let size = size_of(count);
+    let bad = some_bad(size, most_reads(count), event, table);
+    match checks::first_check(day, size, short, bad, d) {
+        Check::Refused(k) => Check::Refused(k),
+        Check::Passed => {
+            let i = (d - 1) as usize;
+            let p = table[i];
+            let k = p.task;
+            let idle = checks::is_idle(k);
+            if call {
+                checks::last_check(!idle, Refusal::Busy, event)
+            } else {
+                checks::last_check(idle, Refusal::Idle, event)
+            }
+        }
     }
 }

@@ -60,7 +60,7 @@ returns c =
     let a = c .before .before .args in
     let l = c .before .loop in
     let all : l .i ≡ a .n = omega arith in
-    l .inv .1 ∙ ap (λ k. someOf (unsound (a .most) (a .e)) (take k (a .t4))) all
+    (l .inv .1 ∙ ap (λ k. someOf (unsound (a .most) (a .e)) (take k (a .t4))) all, omega arith)
 
 pub some-bad-spec : {M : Type 1} → statement M
 some-bad-spec =

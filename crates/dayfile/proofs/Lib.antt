@@ -1,0 +1,6 @@
+-- Theorems about day files.
+pub mod Numbers
+pub mod Reader
+pub mod RoundTrip
+pub mod Files
+pub mod Examples

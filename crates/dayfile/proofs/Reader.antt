@@ -1,0 +1,45 @@
+-- When `reading` finds a record, and what a record that was found says of the bytes.
+use Prim.Native.Nat.{ℕ, _+_, _≤_}
+use native.Mathlib.Omega.{arith}
+use mathlib.Core.Path.{_≡_, refl}
+use mathlib.Core.Bool.{Bool, true, false, cond}
+use mathlib.Core.List.{List}
+use mathlib.Core.Option.{Option, none, some}
+use lib.ListN.{length}
+use lib.Dec.{eqb}
+use borrow.Author.Tests.{le-ltb, eq-eqb, ne-eqb}
+use Rattle.snapshot.specs.declared.Refusal.{Refusal}
+use Rattle.snapshot.specs.Refusals.{firstCause}
+use Rattle.snapshot.proofs.Causes.{Passes, accepted-passes}
+use Rattle.dayfile.specs.declared.Record.{Record}
+use Rattle.dayfile.specs.declared.Reading.the-variants.{Found, End}
+use Rattle.dayfile.specs.Layout.{lengthOf}
+use Rattle.dayfile.specs.Reader.{lengthIn, kindIn, causes, recordOf, outcome, reading}
+
+module _ (bs : List ℕ) where
+  -- a whole record of a known kind is found
+  pub finds-whole : 4 ≤ lengthIn bs → lengthIn bs ≤ 8 → 2 + lengthIn bs ≤ length bs → lengthOf (kindIn bs) ≡ lengthIn bs →
+      reading bs ≡ Found (recordOf bs (kindIn bs)) (2 + lengthIn bs)
+  unfolding reading
+  finds-whole low high whole known =
+      simp (
+        ne-eqb (length bs) 0 (λ e. omega arith),
+        ne-eqb (length bs) 1 (λ e. omega arith),
+        le-ltb (lengthIn bs) 4 low,
+        le-ltb 8 (lengthIn bs) high,
+        le-ltb (length bs) (2 + lengthIn bs) whole,
+        ne-eqb (lengthOf (kindIn bs)) 0 (λ e. omega arith),
+        eq-eqb (lengthIn bs) (lengthOf (kindIn bs)) (omega arith),
+      )
+
+  -- a record that is found passes every cause, is the record of its kind, and ends where its length says
+  pub found-is : (r : Record) (next : ℕ) → reading bs ≡ Found r next →
+      Passes (causes bs) × (r ≡ recordOf bs (kindIn bs)) × (next ≡ 2 + lengthIn bs)
+  unfolding reading
+  found-is r next = go (eqb (length bs) 0) (firstCause (causes bs)) (accepted-passes (causes bs))
+    where
+      go : (b : Bool) (o : Option Refusal) → (o ≡ none → Passes (causes bs)) → cond b End (outcome bs o) ≡ Found r next →
+          Passes (causes bs) × (r ≡ recordOf bs (kindIn bs)) × (next ≡ 2 + lengthIn bs)
+      go true o p h = let z : _≡_ {A = ℕ} 0 1 = cc in absurd (omega arith)
+      go false none p h = (p refl, cc, cc)
+      go false (some k) p h = let z : _≡_ {A = ℕ} 0 1 = cc in absurd (omega arith)

@@ -1,0 +1,51 @@
+-- The reader of one record (document 01, Day files and the day runner): the causes to refuse in their order, and what is found
+-- where none holds.
+use Prim.Native.Nat.{ℕ, _+_}
+use mathlib.Core.Bool.{cond, not, _||_}
+use mathlib.Core.List.{List, [], _∷_}
+use mathlib.Core.Option.{Option, none, some}
+use lib.ListN.{length}
+use lib.Dec.{eqb, ltb}
+use Rattle.snapshot.specs.Refusals.{Cause, firstCause}
+use Rattle.snapshot.specs.declared.Refusal.{Refusal}
+use Rattle.snapshot.specs.declared.Refusal.the-variants.{CutShort, UnknownKind, WrongLength}
+use Rattle.dayfile.specs.declared.Record.{Record}
+use Rattle.dayfile.specs.declared.Record.the-variants.{Open, Update, Scan, Turn}
+use Rattle.dayfile.specs.declared.Reading.{Reading}
+use Rattle.dayfile.specs.declared.Reading.the-variants.{Found, End, Refused}
+use Rattle.dayfile.specs.Layout.{numberAt, lengthOf}
+
+-- the length and the kind that a record begins with
+abbrev pub lengthIn : List ℕ → ℕ
+lengthIn bs = numberAt 2 bs 0
+
+abbrev pub kindIn : List ℕ → ℕ
+kindIn bs = numberAt 2 bs 2
+
+-- "7 if only one byte is left; 9 for a length outside 4 to 8; 7 if the body is short; 8; 9 for the kind"
+abbrev pub causes : List ℕ → List Cause
+causes bs =
+    (eqb (length bs) 1, CutShort)
+    ∷ (ltb (lengthIn bs) 4 || ltb 8 (lengthIn bs), WrongLength)
+    ∷ (ltb (length bs) (2 + lengthIn bs), CutShort)
+    ∷ (eqb (lengthOf (kindIn bs)) 0, UnknownKind)
+    ∷ (not (eqb (lengthIn bs) (lengthOf (kindIn bs))), WrongLength)
+    ∷ []
+
+-- the record of a known kind (the table, columns Kind and After the kind)
+unfoldable pub recordOf : List ℕ → ℕ → Record
+recordOf bs kind =
+    let first = numberAt 2 bs 4 in
+    cond (eqb kind 1) (Open first)
+    (cond (eqb kind 2) (Update first (numberAt 4 bs 6))
+    (cond (eqb kind 3) (Scan first)
+    (Turn first)))
+
+-- "either one record and the place of the next, or a refusal"
+abbrev pub outcome : List ℕ → Option Refusal → Reading
+outcome bs none = Found (recordOf bs (kindIn bs)) (2 + lengthIn bs)
+outcome bs (some k) = Refused k
+
+-- the reader's answer; "No bytes left is the ordinary end"
+unfoldable pub reading : List ℕ → Reading
+reading bs = cond (eqb (length bs) 0) End (outcome bs (firstCause (causes bs)))

@@ -1,0 +1,106 @@
+// The reader of day files: one record by the house layout, or the refusal that document 01's order asks for.
+use snapshot::Refusal;
+ghost use mathlib.Core.Path.{_≡_};
+ghost use Prim.Native.Nat.{_+_, _<_, _≤_};
+ghost use lib.ListN.{length};
+ghost use Rattle.dayfile.specs.Layout.{numberAt, lengthOf};
+ghost use Rattle.dayfile.specs.Reader.{recordOf, reading};
+
+// A record of a day file: an opening with its count, an update call (document 01: an entry call) with its word, a scan call
+// (document 01: a page call), and a turn.
+pub enum Record {
+    Open(u32),
+    Update { process: u32, word: u32 },
+    Scan(u32),
+    Turn(u32),
+}
+
+// What the reader finds: a record and how many bytes it takes, the ordinary end, or a refusal.
+pub enum Reading {
+    Found { record: Record, next: usize },
+    End,
+    Refused(Refusal),
+}
+
+// A byte as a wider number.
+fn wide(b: u8) -> u32
+    ensures { λ r. ⌜ (r ≡ b) × (r < 256) ⌝ }
+{
+    b as u32
+}
+
+// The 16 bits at a place, little-endian.
+fn field(bytes: &[u8], at: usize) -> u32
+    requires { ⌜ at + 1 < length (now bytes) ⌝ }
+    ensures { λ r. ⌜ (r ≡ numberAt 2 (now (bytes .entry)) at) × (r < 65536) ⌝ }
+{
+    let low = wide(bytes[at]);
+    let high = wide(bytes[at + 1]);
+    low + 256 * high
+}
+
+// The lengths of the kinds from 0 on. There is no kind 0.
+const LENGTHS: [usize; 5] = [0, 4, 8, 4, 4];
+
+// The length of a kind's records, or 0 for an unknown kind.
+fn length_of(kind: u32) -> usize
+    ensures { λ r. ⌜ r ≡ lengthOf kind ⌝ }
+{
+    if 4 < kind {
+        return 0;
+    }
+    let i = kind as usize;
+    LENGTHS[i]
+}
+
+// The record of a known kind whose bytes are all there.
+fn record_of(bytes: &[u8], kind: u32) -> Record
+    requires { ⌜ (6 ≤ length (now bytes)) × (2 + lengthOf kind ≤ length (now bytes)) ⌝ }
+    ensures { λ r. ⌜ r ≡ recordOf (now (bytes .entry)) kind ⌝ }
+{
+    let first = field(bytes, 4);
+    match kind {
+        1 => Record::Open(first),
+        2 => Record::Update {
+            process: first,
+            word: field(bytes, 6) + 65536 * field(bytes, 8),
+        },
+        3 => Record::Scan(first),
+        _ => Record::Turn(first),
+    }
+}
+
+// What stands at the start of the lent part of a file.
+pub fn read(bytes: &[u8]) -> Reading
+    ensures { λ r. ⌜ r ≡ reading (now (bytes .entry)) ⌝ }
+{
+    let left = bytes.len();
+    if left == 0 {
+        return Reading::End;
+    }
+    if left == 1 {
+        return Reading::Refused(Refusal::CutShort);
+    }
+    let length = field(bytes, 0) as usize;
+    if length < 4 {
+        return Reading::Refused(Refusal::WrongLength);
+    }
+    if 8 < length {
+        return Reading::Refused(Refusal::WrongLength);
+    }
+    if left < 2 + length {
+        return Reading::Refused(Refusal::CutShort);
+    }
+    let kind = field(bytes, 2);
+    let due = length_of(kind);
+    if due == 0 {
+        return Reading::Refused(Refusal::UnknownKind);
+    }
+    if length != due {
+        return Reading::Refused(Refusal::WrongLength);
+    }
+    Reading::Found {
+        record: record_of(bytes, kind),
+        next: 2 + length,
+    }
+}
