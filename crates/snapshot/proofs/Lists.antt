@@ -96,6 +96,19 @@ pub some-of-none : {A : Type 0} (f : A → Bool) (l : List A) (z : A) → ((i : 
 some-of-none f [] z h = refl
 some-of-none f (x ∷ l) z h = ap (λ b. b || someOf f l) (h 0 (omega arith)) ∙ some-of-none f l z (λ i w. h (suc i) (omega arith))
 
+pub some-of-false : {A : Type 0} (f : A → Bool) (l : List A) (z : A) → someOf f l ≡ false → (i : ℕ) → i < length l → f (getD l i z) ≡ false
+some-of-false f [] z h i w = absurd (not-suc-le-zero w)
+some-of-false f (x ∷ l) z h zero w = go (f x) h
+  where
+    go : (b : Bool) → (b || someOf f l) ≡ false → b ≡ false
+    go true q = q
+    go false q = refl
+some-of-false f (x ∷ l) z h (suc i) w = some-of-false f l z (go (f x) h) i (omega arith)
+  where
+    go : (b : Bool) → (b || someOf f l) ≡ false → someOf f l ≡ false
+    go true q = absurd (true≢false q)
+    go false q = q
+
 -- one element more
 pub some-of-more : {A : Type 0} (f : A → Bool) (l : List A) (i : ℕ) (z : A) → i < length l →
     someOf f (take (i + 1) l) ≡ (someOf f (take i l) || f (getD l i z))

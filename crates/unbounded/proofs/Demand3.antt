@@ -48,7 +48,7 @@ outside-among n d h =
     let b = ltb-false n d (t .1) in
     (omega arith, omega arith)
 
-not-false : (b : Bool) → not b ≡ false → b ≡ true
+pub not-false : (b : Bool) → not b ≡ false → b ≡ true
 not-false true h = refl
 not-false false h = absurd (true≢false h)
 

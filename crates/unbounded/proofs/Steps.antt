@@ -1,23 +1,25 @@
 -- The steps of the code, what a turn finds, the record it leaves, its answer and its page list, are together a turn of `Turns`.
-use Prim.Native.Nat.{ℕ, _+_}
+use Prim.Native.Nat.{ℕ, _+_, _*_, _≤_}
 use mathlib.Core.Path.{_≡_, refl, sym, ap, ap₂, _∙_}
-use mathlib.Core.Bool.{Bool, true, false, true≢false}
+use mathlib.Core.Bool.{Bool, true, false, cond, true≢false}
 use mathlib.Core.List.{List, _++_}
 use mathlib.Core.Option.{Option, none, some}
 use native.Mathlib.Omega.{arith}
 use lib.ListN.{length, take, drop, replicate}
 use lib.Seq.{length-take-le}
+use lib.Dec.{eqb}
 use Rattle.snapshot.specs.Lists.{over}
-use Rattle.snapshot.specs.Verdict.{Verdict, clean, lent, again}
+use Rattle.snapshot.specs.Verdict.{Verdict, clean, lent, again, verdict}
 use Rattle.snapshot.specs.Demand.{Result}
 use Rattle.snapshot.specs.declared.Answer.the-variants.{Read, Page}
 use Rattle.snapshot.proofs.Lists.{take-over, over-take}
+use Rattle.snapshot.proofs.DoubleCollect.{Ends, nobody, lender, goes-on, verdict-ends}
 use Rattle.unbounded.specs.declared.Register.{Register}
 use Rattle.unbounded.specs.declared.Process.{Process}
 use Rattle.unbounded.specs.declared.turns.Find.{Find}
 use Rattle.unbounded.specs.declared.Task.{Task}
 use Rattle.unbounded.specs.declared.Task.the-variants.{Idle, Scan, Update, Ready}
-use Rattle.unbounded.specs.Registers.{ascending, shown, differs, collectedAt}
+use Rattle.unbounded.specs.Registers.{ascending, shown, differs, lends, collectedAt}
 use Rattle.unbounded.specs.Processes.{begin}
 use Rattle.unbounded.specs.Turns.{position, firstAfter, secondAfter, endAfter, decision, markFrom, passed, marksAfter, found, afterRead, foundBy, scanTurn, updateTurn, turnedBy}
 use Rattle.unbounded.specs.Steps.{decisionFind, findOf, readBy, scanBy, updateBy, stateBy, pageOr, answerBy, layIf, pageBy, isReady, placeOf}
@@ -97,3 +99,21 @@ module _ (n now : ℕ) (r : Register) (page : List ℕ) (p : Process) where
   writing-is-steps (Scan t) now′ pos r′ f q = absurd (true≢false (sym q))
   writing-is-steps (Update w t) now′ pos r′ f q = absurd (true≢false (sym q))
   writing-is-steps (Ready w at t) now′ pos r′ f q = refl
+
+-- a search for a lender passes at most the n processes
+pub find-passed : (n now pos : ℕ) (r : Register) (p : Process) → findOf n now pos r p .passed ≤ n
+unfolding findOf decision
+find-passed n now pos r p =
+    let x = firstAfter n pos r (p .first) in
+    let y = secondAfter n pos r (p .second) in
+    go x y (endAfter n pos now (p .«first_end»)) (eqb (pos + 1) (2 * n))
+  where
+    by : (x y : List Register) (e : ℕ) (v : Verdict) → Ends n (differs ascending x y) (lends ascending x y (p .moved)) v →
+        decisionFind n e y (some v) .passed ≤ n
+    by x y e _ (nobody h) = omega arith
+    by x y e _ (lender j l h g) = omega arith
+    by x y e _ (goes-on j l h g) = omega arith
+    go : (x y : List Register) (e : ℕ) (b : Bool) →
+        decisionFind n e y (cond b (some (verdict n (differs ascending x y) (lends ascending x y (p .moved)))) none) .passed ≤ n
+    go x y e true = by x y e (verdict n (differs ascending x y) (lends ascending x y (p .moved))) (verdict-ends n (differs ascending x y) (lends ascending x y (p .moved)))
+    go x y e false = omega arith

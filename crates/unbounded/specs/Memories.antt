@@ -1,13 +1,19 @@
 -- A memory by value: a day with eight records, of which it lends the first ones.
-use Prim.Native.Nat.{ℕ}
+use Prim.Native.Nat.{ℕ, _+_, _<_}
 use mathlib.Core.Bool.{cond}
-use lib.ListN.{take}
+use lib.ListN.{take, getD, set}
 use lib.Dec.{ltb}
 use Rattle.snapshot.specs.Lists.{over}
 use Rattle.snapshot.specs.Demand.{Result}
 use Rattle.unbounded.specs.declared.memory.Memory.{Memory}
 use Rattle.unbounded.specs.declared.memory.Stepped.{Stepped}
+use Rattle.unbounded.specs.declared.Process.{Process}
+use Rattle.unbounded.specs.declared.Register.{Register}
+use Rattle.unbounded.specs.declared.turns.Find.{Find}
+use Rattle.unbounded.specs.Processes.{noProcess}
 use Rattle.unbounded.specs.Days.{State}
+use Rattle.unbounded.specs.Figure3.{turnsOf}
+use Rattle.unbounded.specs.Steps.{stateBy, answerBy}
 
 -- how many of eight records are lent where n are asked for
 abbrev pub sizeOf : ℕ → ℕ
@@ -24,3 +30,23 @@ backIn n m s = record { day = s .day; table = over (sizeOf n) (s .table) (m .tab
 -- a memory after an item whose result is r
 abbrev pub finished : ℕ → Memory → Result State → Stepped
 finished n m r = record { memory = backIn n m (r .state); answer = r .answer }
+
+-- the memory one event on, with p for record i
+abbrev pub stored : Memory → ℕ → Process → Memory
+stored m i p = record { day = record { count = m .day .count; event = m .day .event + 1 }; table = set (m .table) i p }
+
+-- record i is there, and no number of a turn of it overflows
+pub record Sound (m : Memory) (i : ℕ) : Type 0 where
+  pub there : i < 8
+  pub event : m .day .event < 65535
+  pub seq : getD (m .table) i noProcess .register .seq < 4294967295
+  pub turns : turnsOf (getD (m .table) i noProcess .task) < 4294967295
+
+-- a memory after a turn of record i, which read r at a position and found f
+abbrev pub turnedInto : Memory → ℕ → ℕ → ℕ → Register → Find → Stepped
+turnedInto m i n pos r f =
+    let p = getD (m .table) i noProcess in
+    record {
+      memory = stored m i (stateBy n (m .day .event + 1) pos r p f (p .task));
+      answer = answerBy f (p .task)
+    }

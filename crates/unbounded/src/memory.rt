@@ -18,10 +18,13 @@ ghost use lib.ListN.{length, getD, take};
 ghost use lib.Dec.{ltb};
 ghost use Rattle.snapshot.specs.Lists.{over, someOf};
 ghost use Rattle.snapshot.specs.Refusals.{firstCause};
-ghost use Rattle.unbounded.specs.Days.{unsound, itemCauses, stepped};
+ghost use Rattle.unbounded.specs.Days.{unsound, itemCauses, updateCall, scanCall, turnOf, openFor, refusal, accept, stepped};
 ghost use Rattle.unbounded.specs.Figure3.{turnsOf};
 ghost use Rattle.unbounded.specs.Steps.{asOption, pageBy, isReady, placeOf};
-ghost use Rattle.unbounded.specs.Memories.{lentBy, sizeOf, finished};
+ghost use Rattle.unbounded.specs.Processes.{noProcess};
+ghost use Rattle.unbounded.specs.Registers.{ascending};
+ghost use Rattle.unbounded.specs.Turns.{placeAt};
+ghost use Rattle.unbounded.specs.Memories.{lentBy, sizeOf, stored, Sound, turnedInto, finished};
 
 // The day and eight records, of which as many are lent as the day has processes.
 pub struct Memory {
@@ -150,4 +153,73 @@ pub fn plan(m: Memory, short: bool, d: u32, call: bool) -> Check
             }
         }
     }
+}
+
+// Record i of the table.
+pub fn record_at(table: [Process; 8], i: usize) -> Process
+    requires { ⌜ i < 8 ⌝ }
+    ensures { λ p. ⌜ p ≡ getD table i noProcess ⌝ }
+    ensures { λ p. ⌜ length table ≡ 8 ⌝ }
+{
+    table[i]
+}
+
+// The memory one event on, with p for record i.
+pub fn store(m: Memory, i: usize, p: Process) -> Memory
+    requires { ⌜ (i < 8) × (m .day .event < 65535) ⌝ }
+    ensures { λ x. ⌜ x ≡ stored m i p ⌝ }
+{
+    let mut table = m.table;
+    table[i] = p;
+    let day = Day {
+        count: m.day.count,
+        event: m.day.event + 1,
+    };
+    Memory { day, table }
+}
+
+// The place, in its collect, of the read at a position.
+pub fn row_of(n: usize, pos: usize) -> usize
+    requires { ⌜ pos < 2 * n ⌝ }
+    ensures { λ r. ⌜ r ≡ placeAt n pos ⌝ }
+{
+    if pos < n { pos } else { pos - n }
+}
+
+// The end of a turn of record i, which read r at a position and found f.
+pub fn finish(m: Memory, i: usize, n: usize, pos: usize, r: Register, f: Find, page: &mut [u32]) -> Stepped
+    requires { ⌜ Sound m i × (n ≤ 8) × (n ≤ length (now page)) × (pos < 2 * n) × (f .passed ≤ 8) ⌝ }
+    ensures { λ x. ⌜ x ≡ turnedInto m i n pos r f ⌝ }
+    ensures { λ x. ⌜ now (page .exit) ≡ pageBy n f (getD (m .table) i noProcess .task) (now (page .entry)) ⌝ }
+{
+    let table = m.table;
+    let p = table[i];
+    let k = p.task;
+    let answer = turns::answer(k, f);
+    lay_page(n, k, f, page);
+    let q = turns::after(n, m.day.event + 1, pos, r, p, f);
+    let memory = store(m, i, q);
+    Stepped { memory, answer }
+}
+
+// A turn of process d that is accepted. A ready update writes and reads nothing; any other task reads one register.
+pub fn turn_on(m: Memory, d: u32, page: &mut [u32]) -> Stepped
+    requires { ⌜ refusal (lentBy (m .day .count) m) (turnOf d (now page)) ≡ none ⌝ }
+    ensures { λ x. ⌜ x ≡ finished (m .day .count) m (accept ascending (lentBy (m .day .count) m) (turnOf d (now (page .entry)))) ⌝ }
+    ensures { λ x. ⌜ now (page .exit) ≡ accept ascending (lentBy (m .day .count) m) (turnOf d (now (page .entry))) .page ⌝ }
+{
+    let table = m.table;
+    let n = m.day.count as usize;
+    let i = (d - 1) as usize;
+    let p = record_at(table, i);
+    let k = p.task;
+    if is_ready(k) {
+        let own = p.register;
+        return finish(m, i, n, 0, own, turns::nothing(0), page);
+    }
+    let pos = place_of(n, k);
+    let q = record_at(table, row_of(n, pos));
+    let r = q.register;
+    let f = turns::find_page(n, m.day.event + 1, pos, r, p);
+    finish(m, i, n, pos, r, f, page)
 }
