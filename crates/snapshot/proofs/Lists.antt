@@ -86,6 +86,10 @@ pub map-replicate : {A B : Type 0} (f : A → B) (n : ℕ) (a : A) → map f (re
 map-replicate f zero a = refl
 map-replicate {B = B} f (suc n) a = ap {B = List B} (λ r. f a ∷ r) (map-replicate f n a)
 
+pub map-constant : {A B : Type 0} (b : B) (l : List A) → map (λ a. b) l ≡ replicate (length l) b
+map-constant b [] = refl
+map-constant {B = B} b (x ∷ l) = ap {B = List B} (λ r. b ∷ r) (map-constant b l)
+
 pub take-replicate : {A : Type 0} (n k : ℕ) (a : A) → n ≤ k → take n (replicate k a) ≡ replicate n a
 take-replicate zero k a l = refl
 take-replicate (suc n) zero a l = absurd (not-suc-le-zero l)
@@ -118,9 +122,11 @@ some-of-more {A} f l i z h =
     or-assoc : (a b c : Bool) → (a || (b || c)) ≡ ((a || b) || c)
     or-assoc true b c = refl
     or-assoc false b c = refl
+
     or-last : (a : Bool) → (a || false) ≡ a
     or-last true = refl
     or-last false = refl
+
     some-of-last : (a : List A) (x : A) → someOf f (a ++ (x ∷ [])) ≡ (someOf f a || f x)
     some-of-last [] x = or-last (f x)
     some-of-last (y ∷ a) x = ap (λ b. f y || b) (some-of-last a x) ∙ or-assoc (f y) (someOf f a) (f x)

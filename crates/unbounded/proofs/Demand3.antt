@@ -18,7 +18,7 @@ use Rattle.snapshot.specs.declared.Answer.the-variants.{Called}
 use Rattle.snapshot.specs.declared.Refusal.{Refusal}
 use Rattle.snapshot.specs.declared.Refusal.the-variants.{CountRange, ProcessRange, Busy, Idle as NotBusy, DayFull, LentSize, OpenState, CannotArise}
 use Rattle.snapshot.proofs.Causes.{accepted-passes, Avoids, refused-avoids, refused-first}
-use Rattle.snapshot.proofs.Lists.{some-of-none, map-replicate, take-replicate}
+use Rattle.snapshot.proofs.Lists.{some-of-none, map-replicate, map-constant, take-replicate}
 use Rattle.snapshot.proofs.Registers.{counted-start}
 use Rattle.snapshot.proofs.Views.{viewed-start}
 use Rattle.snapshot.proofs.Owed.{Owed, Outcome, actor}
@@ -305,14 +305,10 @@ opening-opens o s k q =
     let w = accepted-passes (openingCauses s k) q in
     let size = eqb-true (length (s .table)) k (not-false (eqb (length (s .table)) k) (w .1 .1 .0)) in
     let range = outside-among 8 k (w .1 .0) in (
-      ap (λ ps. record { day = record { count = k; event = 0 }; table = ps }) (map-constant (s .table) ∙ ap (λ m. replicate m zeroProcess) size),
+      ap (λ ps. record { day = record { count = k; event = 0 }; table = ps }) (map-constant zeroProcess (s .table) ∙ ap (λ m. replicate m zeroProcess) size),
       range .0,
       range .1,
     )
-  where
-    map-constant : (ps : List Process) → map (λ p. zeroProcess) ps ≡ replicate (length ps) zeroProcess
-    map-constant [] = refl
-    map-constant (p ∷ ps) = ap {B = List Process} (λ r. zeroProcess ∷ r) (map-constant ps)
 
 -- demand 3 after any accepted opening: whatever the day and the table held before it
 pub demand3-after-opening : (s : State) (n : ℕ) → refusal s (openFor n) ≡ none → (items : List Item) →

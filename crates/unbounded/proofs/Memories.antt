@@ -5,27 +5,28 @@ use native.Mathlib.Decide.{decLt, ℕ-discrete}
 use mathlib.Core.Path.{_≡_, refl, sym, ap, ap₂, _∙_}
 use mathlib.Core.Logic.{by-cases, _≢_}
 use mathlib.Core.Bool.{Bool, true, false, cond, not, _||_, true≢false}
-use mathlib.Core.List.{List, _++_}
+use mathlib.Core.List.{List, [], _++_}
 use mathlib.Core.Option.{Option, none, some}
-use lib.ListN.{length, getD, take, drop, set, take-append-drop}
+use lib.ListN.{length, getD, take, drop, set, replicate, take-append-drop}
 use lib.Seq.{getD-take, length-take-le, take-take, set-append-left, take-all, take-set-lt}
 use borrow.Author.Tests.{eq-eqb, lt-ltb, le-ltb, ltb-false, leb-false, eqb-true, eqb-false}
 use lib.Dec.{eqb, ltb}
 use native.Mathlib.Nat.{mul-le-mul}
 use Rattle.snapshot.specs.Lists.{over, someOf}
-use Rattle.snapshot.proofs.Lists.{some-of-false}
+use Rattle.snapshot.proofs.Lists.{some-of-false, map-constant, take-replicate}
 use Rattle.snapshot.specs.Refusals.{firstCause}
-use Rattle.snapshot.specs.Demand.{Among}
+use Rattle.snapshot.specs.Demand.{Among, admit, step}
 use Rattle.snapshot.specs.declared.Refusal.{Refusal}
 use Rattle.snapshot.specs.declared.Answer.{Answer}
+use Rattle.snapshot.specs.declared.Answer.the-variants.{Refused, Opened, Called}
 use Rattle.snapshot.proofs.Causes.{Passes, accepted-passes, first-none, first-some}
 use Rattle.unbounded.specs.declared.Day.{Day}
 use Rattle.unbounded.specs.declared.Process.{Process}
 use Rattle.unbounded.specs.declared.Task.{Task}
 use Rattle.unbounded.specs.declared.Task.the-variants.{Idle, Scan, Update, Ready}
 use Rattle.unbounded.specs.declared.memory.Memory.{Memory}
-use Rattle.unbounded.specs.Processes.{noProcess}
-use Rattle.unbounded.specs.Days.{State, outside, mostReads, readsUpTo8, isFull, overdue, unsound, cannotArise, someUnsound, firstCauses, lastCauses, stateCause, itemCauses, isIdle, advance, turnOf, registerRead, turnBy, accept}
+use Rattle.unbounded.specs.Processes.{noProcess, zeroProcess, begin}
+use Rattle.unbounded.specs.Days.{State, Item, outside, mostReads, readsUpTo8, isFull, overdue, unsound, cannotArise, someUnsound, firstCauses, lastCauses, stateCause, itemCauses, isIdle, advance, openFor, updateCall, scanCall, turnOf, openingChecks, openedBy, calledBy, registerRead, turnBy, refusal, accept, method, stepped, lent as lentList}
 use Rattle.unbounded.specs.declared.Register.{Register}
 use Rattle.unbounded.specs.declared.turns.Find.{Find}
 use Rattle.unbounded.specs.Registers.{ascending}
@@ -34,7 +35,7 @@ use Rattle.unbounded.specs.Steps.{findOf, stateBy, answerBy, pageBy, isR
 use Rattle.unbounded.specs.Figure3.{turnsOf}
 use Rattle.unbounded.proofs.Reading.{place-below, position-low}
 use Rattle.unbounded.proofs.Steps.{steps, reading-is-steps, writing-is-steps}
-use Rattle.unbounded.specs.Memories.{sizeOf, lentBy, backIn, finished, stored, Sound, turnedInto}
+use Rattle.unbounded.specs.Memories.{sizeOf, lentBy, backIn, finished, stored, Sound, turnedInto, calledWith, calledOr}
 use Rattle.unbounded.proofs.Demand3.{outside-among, or-false, not-false}
 
 pub size-le : (n : ℕ) → sizeOf n ≤ 8
@@ -130,6 +131,23 @@ module _ (n : ℕ) (m : Memory) where
       ∙ sym (set-append-left (take k t) (drop k t) i p (let r = length-take-le k t (omega arith) in omega arith))
       ∙ ap (λ x. set x i p) (take-append-drop k t)
 
+-- ---- one item
+
+module _ (s : State) (x : Item) where
+  pub stepped-refused : (k : Refusal) → refusal s x ≡ some k → stepped s x ≡ record { state = s; answer = Refused k; page = lentList x }
+  unfolding stepped step
+  stepped-refused k q = ap (λ o. admit (method ascending (s .day .count)) s x o) q
+
+  pub stepped-accepted : refusal s x ≡ none → stepped s x ≡ accept ascending s x
+  unfolding stepped step
+  stepped-accepted q = ap (λ o. admit (method ascending (s .day .count)) s x o) q
+
+-- a refusal leaves the memory as it was
+pub refused-back : (n : ℕ) (m : Memory) (x : Item) (k : Refusal) → refusal (lentBy n m) x ≡ some k →
+    record { memory = m; answer = Refused k } ≡ finished n m (stepped (lentBy n m) x)
+refused-back n m x k q =
+    sym (ap (finished n m) (stepped-refused (lentBy n m) x k q) ∙ ap (λ t. record { memory = t; answer = Refused k }) (back-same n m))
+
 -- ---- accepted items
 
 not-overdue-few : (most : ℕ) (k : Task) → overdue most k ≡ false → turnsOf k ≤ most
@@ -188,8 +206,8 @@ module _ (m : Memory) (d : ℕ) (short isCall : Bool) where
               there = omega arith;
               event = omega arith;
               seq = let e = ap (λ x. x .register .seq) at in omega arith;
-              turns = let e = ap (λ x. turnsOf (x .task)) at in omega arith
-            }
+              turns = let e = ap (λ x. turnsOf (x .task)) at in omega arith;
+            };
       }
 
   -- an accepted item that leaves record q for process d
@@ -231,10 +249,11 @@ module _ (m : Memory) (d : ℕ) (page : List ℕ) (f : Fine m d (ltb (length pag
       (finished n m (accept ascending (lentBy n m) (turnOf d page)) ≡ turnedInto m (d - 1) n pos r g)
       × (accept ascending (lentBy n m) (turnOf d page) .page ≡ pageBy n g (own .task) page)
   unfolding accept
-  turned-into pos r g q =
-      (ap (λ x. finished n m (record { state = advance (lentBy n m) d (x .state); answer = x .answer; page = x .page })) q
-      ∙ finish-is m d (ltb (length page) n) false f long (stateBy n now pos r own g (own .task)) (answerBy g (own .task)) (pageBy n g (own .task) page),
-      ap (λ x. x .page) q)
+  turned-into pos r g q = (
+    ap (λ x. finished n m (record { state = advance (lentBy n m) d (x .state); answer = x .answer; page = x .page })) q
+        ∙ finish-is m d (ltb (length page) n) false f long (stateBy n now pos r own g (own .task)) (answerBy g (own .task)) (pageBy n g (own .task) page),
+    ap (λ x. x .page) q,
+  )
 
   own-lent : getD (lentBy n m .table) (d - 1) noProcess ≡ own
   own-lent = let range = f .among in lent-process m d (ltb (length page) n) false f (d - 1) (omega arith)
@@ -274,3 +293,53 @@ module _ (m : Memory) (d : ℕ) (page : List ℕ) (f : Fine m d (ltb (length pag
       turned-into pos r g
       (turn-own
       ∙ writing-is-steps n now (registerRead (lentBy n m .table) (reads ascending n (own .task))) page own (own .task) now pos r g q)
+
+-- ---- calls and openings
+
+-- a call is its refusal, or the task set
+called-is : (s : State) (d : ℕ) (k : Task) (x : Item) → refusal s x ≡ firstCause (itemCauses s d false true) →
+    accept ascending s x ≡ calledWith s d k → lentList x ≡ [] →
+    stepped s x ≡ calledOr s d k (firstCause (itemCauses s d false true))
+unfolding stepped step
+called-is s d k x q a l = ap (λ o. admit (method ascending (s .day .count)) s x o) q ∙ go (firstCause (itemCauses s d false true))
+  where
+    go : (o : Option Refusal) → admit (method ascending (s .day .count)) s x o ≡ calledOr s d k o
+    go none = a
+    go (some r) = ap (λ p. record { state = s; answer = Refused r; page = p }) l
+
+pub update-call-is : (s : State) (d w : ℕ) → stepped s (updateCall d w) ≡ calledOr s d (Update w 0) (firstCause (itemCauses s d false true))
+unfolding refusal accept
+update-call-is s d w = called-is s d (Update w 0) (updateCall d w) refl refl refl
+
+pub scan-call-is : (s : State) (d : ℕ) → stepped s (scanCall d) ≡ calledOr s d (Scan 0) (firstCause (itemCauses s d false true))
+unfolding refusal accept
+scan-call-is s d = called-is s d (Scan 0) (scanCall d) refl refl refl
+
+-- an accepted call leaves the record of process d with its task set
+pub call-is : (m : Memory) (d : ℕ) (k : Task) → Fine m d false true → length (m .table) ≡ 8 →
+    finished (m .day .count) m (calledWith (lentBy (m .day .count) m) d k)
+    ≡ record { memory = stored m (d - 1) (begin (m .day .count) k (getD (m .table) (d - 1) noProcess)); answer = Called }
+unfolding calledBy lentBy
+call-is m d k f long =
+    let range = f .among in
+    let n = m .day .count in
+    finish-is m d false true f long (begin n k (getD (lentBy n m .table) (d - 1) noProcess)) Called []
+    ∙ ap (λ p. record { memory = stored m (d - 1) (begin n k p); answer = Called }) (lent-process m d false true f (d - 1) (omega arith))
+
+module _ (m : Memory) (k : ℕ) (long : length (m .table) ≡ 8) where
+  lent-long : length (take (sizeOf k) (m .table)) ≡ sizeOf k
+  lent-long = let l = size-le k in length-take-le (sizeOf k) (m .table) (omega arith)
+
+  pub opening-is : refusal (lentBy k m) (openFor k) ≡ firstCause (openingChecks (m .day) (sizeOf k) k)
+  unfolding refusal lentBy
+  opening-is = ap (λ t. firstCause (openingChecks (m .day) t k)) lent-long
+
+  pub opened-is : finished k m (accept ascending (lentBy k m) (openFor k))
+      ≡ record { memory = record { day = record { count = k; event = 0 }; table = over (sizeOf k) (replicate 8 zeroProcess) (m .table) }; answer = Opened }
+  unfolding accept openedBy backIn lentBy
+  opened-is =
+      let l = size-le k in
+      ap (λ t. record { memory = record { day = record { count = k; event = 0 }; table = t ++ drop (sizeOf k) (m .table) }; answer = Opened })
+      (ap (take (sizeOf k)) (map-constant zeroProcess (take (sizeOf k) (m .table)) ∙ ap (λ j. replicate j zeroProcess) lent-long)
+      ∙ take-replicate (sizeOf k) (sizeOf k) zeroProcess (omega arith)
+      ∙ sym (take-replicate (sizeOf k) 8 zeroProcess l))

@@ -113,6 +113,7 @@ find-passed n now pos r p =
     by x y e _ (nobody h) = omega arith
     by x y e _ (lender j l h g) = omega arith
     by x y e _ (goes-on j l h g) = omega arith
+
     go : (x y : List Register) (e : ℕ) (b : Bool) →
         decisionFind n e y (cond b (some (verdict n (differs ascending x y) (lends ascending x y (p .moved)))) none) .passed ≤ n
     go x y e true = by x y e (verdict n (differs ascending x y) (lends ascending x y (p .moved))) (verdict-ends n (differs ascending x y) (lends ascending x y (p .moved)))

@@ -1,17 +1,22 @@
 -- A memory by value: a day with eight records, of which it lends the first ones.
 use Prim.Native.Nat.{ℕ, _+_, _<_}
 use mathlib.Core.Bool.{cond}
+use mathlib.Core.List.{[]}
+use mathlib.Core.Option.{Option, none, some}
 use lib.ListN.{take, getD, set}
 use lib.Dec.{ltb}
 use Rattle.snapshot.specs.Lists.{over}
 use Rattle.snapshot.specs.Demand.{Result}
+use Rattle.snapshot.specs.declared.Refusal.{Refusal}
+use Rattle.snapshot.specs.declared.Answer.the-variants.{Called, Refused}
+use Rattle.unbounded.specs.declared.Task.{Task}
 use Rattle.unbounded.specs.declared.memory.Memory.{Memory}
 use Rattle.unbounded.specs.declared.memory.Stepped.{Stepped}
 use Rattle.unbounded.specs.declared.Process.{Process}
 use Rattle.unbounded.specs.declared.Register.{Register}
 use Rattle.unbounded.specs.declared.turns.Find.{Find}
 use Rattle.unbounded.specs.Processes.{noProcess}
-use Rattle.unbounded.specs.Days.{State}
+use Rattle.unbounded.specs.Days.{State, calledBy}
 use Rattle.unbounded.specs.Figure3.{turnsOf}
 use Rattle.unbounded.specs.Steps.{stateBy, answerBy}
 
@@ -48,5 +53,14 @@ turnedInto m i n pos r f =
     let p = getD (m .table) i noProcess in
     record {
       memory = stored m i (stateBy n (m .day .event + 1) pos r p f (p .task));
-      answer = answerBy f (p .task)
+      answer = answerBy f (p .task);
     }
+
+-- an accepted call of process d that asks for task k
+abbrev pub calledWith : State → ℕ → Task → Result State
+calledWith s d k = record { state = calledBy s d k; answer = Called; page = [] }
+
+-- the same, or a refusal
+abbrev pub calledOr : State → ℕ → Task → Option Refusal → Result State
+calledOr s d k none = calledWith s d k
+calledOr s d k (some r) = record { state = s; answer = Refused r; page = [] }

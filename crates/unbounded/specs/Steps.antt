@@ -36,7 +36,7 @@ decisionFind n end b (some (lent j)) =
       passed = j;
       words = collectedAt ascending b j .view;
       at = collectedAt ascending b j .at;
-      lender = j + 1
+      lender = j + 1;
     }
 decisionFind n end b (some again) = nothingFound n
 

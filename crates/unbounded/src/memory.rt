@@ -12,19 +12,20 @@ use crate::turns::Find;
 use snapshot::Answer;
 use snapshot::Refusal;
 ghost use mathlib.Core.Path.{_≡_};
+ghost use mathlib.Core.Bool.{true, false};
 ghost use mathlib.Core.Option.{none};
 ghost use Prim.Native.Nat.{_+_, _*_, _-_, _≤_, _<_};
-ghost use lib.ListN.{length, getD, take};
+ghost use lib.ListN.{length, getD, take, replicate};
 ghost use lib.Dec.{ltb};
 ghost use Rattle.snapshot.specs.Lists.{over, someOf};
 ghost use Rattle.snapshot.specs.Refusals.{firstCause};
 ghost use Rattle.unbounded.specs.Days.{unsound, itemCauses, updateCall, scanCall, turnOf, openFor, refusal, accept, stepped};
 ghost use Rattle.unbounded.specs.Figure3.{turnsOf};
 ghost use Rattle.unbounded.specs.Steps.{asOption, pageBy, isReady, placeOf};
-ghost use Rattle.unbounded.specs.Processes.{noProcess};
+ghost use Rattle.unbounded.specs.Processes.{noProcess, zeroProcess};
 ghost use Rattle.unbounded.specs.Registers.{ascending};
 ghost use Rattle.unbounded.specs.Turns.{placeAt};
-ghost use Rattle.unbounded.specs.Memories.{lentBy, sizeOf, stored, Sound, turnedInto, finished};
+ghost use Rattle.unbounded.specs.Memories.{lentBy, sizeOf, stored, Sound, turnedInto, finished, calledWith, calledOr};
 
 // The day and eight records, of which as many are lent as the day has processes.
 pub struct Memory {
@@ -187,7 +188,15 @@ pub fn row_of(n: usize, pos: usize) -> usize
 }
 
 // The end of a turn of record i, which read r at a position and found f.
-pub fn finish(m: Memory, i: usize, n: usize, pos: usize, r: Register, f: Find, page: &mut [u32]) -> Stepped
+pub fn finish(
+    m: Memory,
+    i: usize,
+    n: usize,
+    pos: usize,
+    r: Register,
+    f: Find,
+    page: &mut [u32],
+) -> Stepped
     requires { ⌜ Sound m i × (n ≤ 8) × (n ≤ length (now page)) × (pos < 2 * n) × (f .passed ≤ 8) ⌝ }
     ensures { λ x. ⌜ x ≡ turnedInto m i n pos r f ⌝ }
     ensures { λ x. ⌜ now (page .exit) ≡ pageBy n f (getD (m .table) i noProcess .task) (now (page .entry)) ⌝ }
@@ -222,4 +231,101 @@ pub fn turn_on(m: Memory, d: u32, page: &mut [u32]) -> Stepped
     let r = q.register;
     let f = turns::find_page(n, m.day.event + 1, pos, r, p);
     finish(m, i, n, pos, r, f, page)
+}
+
+// An accepted call of process d: it only sets the task.
+pub fn call_on(m: Memory, d: u32, k: Task) -> Stepped
+    requires { ⌜ firstCause (itemCauses (lentBy (m .day .count) m) d false true) ≡ none ⌝ }
+    ensures { λ x. ⌜ x ≡ finished (m .day .count) m (calledWith (lentBy (m .day .count) m) d k) ⌝ }
+{
+    let table = m.table;
+    let n = m.day.count as usize;
+    let i = (d - 1) as usize;
+    let p = record_at(table, i);
+    let q = turns::begun(n, k, p);
+    let memory = store(m, i, q);
+    Stepped {
+        memory,
+        answer: Answer::Called,
+    }
+}
+
+// A call of process d that asks for task k, or its refusal.
+fn call(m: Memory, d: u32, k: Task) -> Stepped
+    ensures { λ x. ⌜ x ≡ finished (m .day .count) m (calledOr (lentBy (m .day .count) m) d k (firstCause (itemCauses (lentBy (m .day .count) m) d false true))) ⌝ }
+{
+    match plan(m, false, d, true) {
+        Check::Refused(r) => Stepped {
+            memory: m,
+            answer: Answer::Refused(r),
+        },
+        Check::Passed => call_on(m, d, k),
+    }
+}
+
+// An update call (document 01: an entry call) of process d, with its word.
+pub fn update_call(m: Memory, d: u32, word: u32) -> Stepped
+    ensures { λ x. ⌜ x ≡ finished (m .day .count) m (stepped (lentBy (m .day .count) m) (updateCall d word)) ⌝ }
+{
+    call(m, d, Task::Update { word, turns: 0 })
+}
+
+// A scan call (document 01: a page call) of process d.
+pub fn scan_call(m: Memory, d: u32) -> Stepped
+    ensures { λ x. ⌜ x ≡ finished (m .day .count) m (stepped (lentBy (m .day .count) m) (scanCall d)) ⌝ }
+{
+    call(m, d, Task::Scan { turns: 0 })
+}
+
+// A turn of process d, which lends a page list.
+pub fn turn(m: Memory, d: u32, page: &mut [u32]) -> Stepped
+    ensures { λ x. ⌜ x ≡ finished (m .day .count) m (stepped (lentBy (m .day .count) m) (turnOf d (now (page .entry)))) ⌝ }
+    ensures { λ x. ⌜ now (page .exit) ≡ stepped (lentBy (m .day .count) m) (turnOf d (now (page .entry))) .page ⌝ }
+{
+    let short = page.len() < m.day.count as usize;
+    match plan(m, short, d, false) {
+        Check::Refused(k) => Stepped {
+            memory: m,
+            answer: Answer::Refused(k),
+        },
+        Check::Passed => turn_on(m, d, page),
+    }
+}
+
+// The first n records set to 0.
+fn clear(n: usize, table: [Process; 8]) -> [Process; 8]
+    requires { ⌜ n ≤ 8 ⌝ }
+    ensures { λ x. ⌜ x ≡ over n (replicate 8 zeroProcess) table ⌝ }
+    ensures { λ x. ⌜ length table ≡ 8 ⌝ }
+{
+    let mut x = table;
+    let mut i = 0;
+    while i < n {
+        x[i] = checks::zero();
+        i += 1;
+    }
+    x
+}
+
+// An opening for k processes.
+pub fn open(m: Memory, k: u32) -> Stepped
+    ensures { λ x. ⌜ x ≡ finished k m (stepped (lentBy k m) (openFor k)) ⌝ }
+{
+    let old = m.table;
+    let day = m.day;
+    let size = size_of(k);
+    let table = clear(size, old);
+    match checks::open_check(day, size, k) {
+        Check::Refused(r) => Stepped {
+            memory: m,
+            answer: Answer::Refused(r),
+        },
+        Check::Passed => {
+            let opened = Day { count: k, event: 0 };
+            Stepped {
+                memory: Memory { day: opened, table },
+                answer: Answer::Opened,
+            }
+        }
+    }
 }

@@ -47,11 +47,12 @@ same-length c = search needs
 -- src/memory.rt:189:1
 returns : tie.Need-returns
 returns c =
-    let a = c .before .before .before .before .before .before .before .before .before .before .before .args in
-    (ap₂ {C = Stepped} (λ x y. record { memory = x; answer = y })
-    (c .store .ensures ∙ ap (stored (a .m) (a .i)) (c .before .after .ensures))
-    (c .before .before .before .before .before .before .before .answer .ensures),
-    c .before .before .before .before .before .lay-page .ensures)
+    let a = c .before .before .before .before .before .before .before .before .before .before .before .args in (
+      ap₂ {C = Stepped} (λ x y. record { memory = x; answer = y })
+          (c .store .ensures ∙ ap (stored (a .m) (a .i)) (c .before .after .ensures))
+          (c .before .before .before .before .before .before .before .answer .ensures),
+      c .before .before .before .before .before .lay-page .ensures,
+    )
 
 pub finish-spec : {M : Type 1} → statement M
 finish-spec =

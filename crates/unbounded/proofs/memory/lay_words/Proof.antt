@@ -50,10 +50,11 @@ loop-less c = search needs
 loop-again : tie.Need-loop-again Inv-loop μ-loop
 loop-again c =
     let a = c .before .before .args in
-    let l = c .before .loop in
-    (omega arith,
-    ap (λ x. set x (l .j) (getD (a .t2) (l .j) 0)) (l .inv .1) ∙ over-more (l .j) (a .t2) (a .page .now) 0 (omega arith) (omega arith),
-    length-set (l .page) (l .j) (getD (a .t2) (l .j) 0) ∙ l .inv .2)
+    let l = c .before .loop in (
+      omega arith,
+      ap (λ x. set x (l .j) (getD (a .t2) (l .j) 0)) (l .inv .1) ∙ over-more (l .j) (a .t2) (a .page .now) 0 (omega arith) (omega arith),
+      length-set (l .page) (l .j) (getD (a .t2) (l .j) 0) ∙ l .inv .2,
+    )
 
 -- src/memory.rt:94:1
 same-length : tie.Need-same-length Inv-loop μ-loop

@@ -44,17 +44,19 @@ returns c = search needs
 returns-2 : tie.Need-returns-2
 returns-2 c =
     let a = c .before .before .before .before .args in
-    let k = c .before .before .k .given in
-    (c .position-of .ensures ∙ sym (ap (placeOf (a .n)) (k .1)),
-    subst (λ x. x < 2 * a .n) (sym (c .position-of .ensures)) (position-low (a .n) (k .0 .0) (omega arith)))
+    let k = c .before .before .k .given in (
+      c .position-of .ensures ∙ sym (ap (placeOf (a .n)) (k .1)),
+      subst (λ x. x < 2 * a .n) (sym (c .position-of .ensures)) (position-low (a .n) (k .0 .0) (omega arith)),
+    )
 
 -- src/memory.rt:76:1
 returns-3 : tie.Need-returns-3
 returns-3 c =
     let a = c .before .before .before .before .args in
-    let k = c .before .before .k2 .given in
-    (c .position-of2 .ensures ∙ sym (ap (placeOf (a .n)) (k .1)),
-    subst (λ x. x < 2 * a .n) (sym (c .position-of2 .ensures)) (position-low (a .n) (k .0 .1 .0) (omega arith)))
+    let k = c .before .before .k2 .given in (
+      c .position-of2 .ensures ∙ sym (ap (placeOf (a .n)) (k .1)),
+      subst (λ x. x < 2 * a .n) (sym (c .position-of2 .ensures)) (position-low (a .n) (k .0 .1 .0) (omega arith)),
+    )
 
 -- src/memory.rt:76:1
 returns-4 : tie.Need-returns-4

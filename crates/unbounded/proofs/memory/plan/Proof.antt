@@ -69,7 +69,7 @@ enum-told c = search needs
 sub-i : tie.Need-sub-i
 sub-i c =
     let a = c .before .before .before .before .before .before .before .before .args in
-    let among = plan-among (a .m) (long (c .before .before)) (a .d) (a .short) (a .call) (sym (checked (c .before .before)) ∙ ap asOption (c  .enum-told .given .1)) in
+    let among = plan-among (a .m) (long (c .before .before)) (a .d) (a .short) (a .call) (sym (checked (c .before .before)) ∙ ap asOption (c .enum-told .given .1)) in
     omega arith
 
 -- src/memory.rt:141:21
@@ -84,7 +84,7 @@ mul-p c = search needs
 array-copy-out-p : tie.Need-array-copy-out-p
 array-copy-out-p c =
     let a = c .before .before .before .before .before .before .before .before .args in
-    let among = plan-among (a .m) (long (c .before .before)) (a .d) (a .short) (a .call) (sym (checked (c .before .before)) ∙ ap asOption (c  .enum-told .given .1)) in
+    let among = plan-among (a .m) (long (c .before .before)) (a .d) (a .short) (a .call) (sym (checked (c .before .before)) ∙ ap asOption (c .enum-told .given .1)) in
     omega arith
 
 -- src/memory.rt:144:17

@@ -50,9 +50,10 @@ loop-again : tie.Need-loop-again Inv-loop μ-loop
 loop-again c =
     let a = c .before .before .before .before .args in
     let l = c .before .before .before .loop in
-    let f = unsound (a .most) (a .e) in
-    (omega arith,
-    c .bad-after .ensures ∙ ap (λ b. b || f (getD (a .t4) (l .i) noProcess)) (l .inv .1) ∙ sym (some-of-more f (a .t4) (l .i) noProcess (omega arith)))
+    let f = unsound (a .most) (a .e) in (
+      omega arith,
+      c .bad-after .ensures ∙ ap (λ b. b || f (getD (a .t4) (l .i) noProcess)) (l .inv .1) ∙ sym (some-of-more f (a .t4) (l .i) noProcess (omega arith)),
+    )
 
 -- src/memory.rt:45:1
 returns : tie.Need-returns Inv-loop μ-loop

@@ -88,8 +88,8 @@ returns c =
     let start = c .before .before .before .before .before .before .before .before .before .before .before .before in
     let a = start .args in
     let w = turn-writes (a .m) (a .d) (a .page .now) (ok start) (c .before .before .before .before .before .before .before .before .record-at .ensures .1)
-        (sym (ap (λ p. isReady (p .task)) (c .before .before .before .before .before .before .before .before .record-at .ensures .0)) ∙ sym (c .before .before .before .before .before .before .before .is-ready .ensures) ∙ c .before .before .before .before .before .before .if1 .taken)
-        0 (c .before .before .before .before .before .before .before .before .record-at .result .register) (c .before .before .before .before .nothing .result) in
+    (sym (ap (λ p. isReady (p .task)) (c .before .before .before .before .before .before .before .before .record-at .ensures .0)) ∙ sym (c .before .before .before .before .before .before .before .is-ready .ensures) ∙ c .before .before .before .before .before .before .if1 .taken)
+    0 (c .before .before .before .before .before .before .before .before .record-at .result .register) (c .before .before .before .before .nothing .result) in
     (c .before .before .finish .ensures .0 ∙ sym (w .0), c .before .before .finish .ensures .1 ∙ sym (w .1))
 
 -- src/memory.rt:220:9
@@ -127,9 +127,13 @@ finish-requires-2 c κs =
     let start = c .before .before .before .before .before .before .before .before .before .before .before .before .before in
     let a = start .args in
     let small = ok start .small in
-    let few = find-passed (a .m .day .count) (a .m .day .event + 1) (c .before .before .before .before .before .before .place-of .result) (c .before .before .before .before .record-at2 .result .register) (c .before .before .before .before .before .before .before .before .before .record-at .result) in
-    (ok start .sound, small, roomy start, c .before .before .before .before .before .before .place-of .ensures .1,
-    subst (λ f. f .passed ≤ 8) (sym (c .before .find-page .ensures)) (omega arith))
+    let few = find-passed (a .m .day .count) (a .m .day .event + 1) (c .before .before .before .before .before .before .place-of .result) (c .before .before .before .before .record-at2 .result .register) (c .before .before .before .before .before .before .before .before .before .record-at .result) in (
+      ok start .sound,
+      small,
+      roomy start,
+      c .before .before .before .before .before .before .place-of .ensures .1,
+      subst (λ f. f .passed ≤ 8) (sym (c .before .find-page .ensures)) (omega arith),
+    )
 
 -- src/memory.rt:206:1
 same-length-2 : tie.Need-same-length-2
@@ -143,21 +147,22 @@ returns-2 c =
     let n = a .m .day .count in
     let own = c .before .before .before .before .before .before .before .before .before .before .before .before .record-at .ensures .0 in
     let w = turn-reads (a .m) (a .d) (a .page .now) (ok start) (c .before .before .before .before .before .before .before .before .before .before .before .before .record-at .ensures .1)
-        (sym (ap (λ p. isReady (p .task)) own) ∙ sym (c .before .before .before .before .before .before .before .before .before .before .before .is-ready .ensures) ∙ c .before .before .before .before .before .before .before .before .before .before .if1 .left) in
+    (sym (ap (λ p. isReady (p .task)) own) ∙ sym (c .before .before .before .before .before .before .before .before .before .before .before .is-ready .ensures) ∙ c .before .before .before .before .before .before .before .before .before .before .if1 .left) in
     let at = position-is (c .before .before .before .before .before .before .before .before .before) in
     let read = ap (λ p. p .register) (c .before .before .before .before .before .before .before .record-at2 .ensures .0 ∙ ap (λ j. getD (a .m .table) j noProcess) (place-is (c .before .before .before .before .before .before .before .before))) in
     let found =
-        c .before .before .before .before .find-page .ensures
-        ∙ ap (λ p. findOf n (a .m .day .event + 1) (c .before .before .before .before .before .before .before .before .before .place-of .result) (c .before .before .before .before .before .before .before .record-at2 .result .register) p) own
-        ∙ ap₂ (λ x y. findOf n (a .m .day .event + 1) x y (getD (a .m .table) (a .d - 1) noProcess)) at read in
-    (c .before .before .finish2 .ensures .0
-    ∙ ap₂ (λ x y. turnedInto (a .m) (a .d - 1) n x y (c .before .before .before .before .find-page .result)) at read
-    ∙ ap (turnedInto (a .m) (a .d - 1) n (placeOf n (getD (a .m .table) (a .d - 1) noProcess .task))
-    (getD (a .m .table) (placeAt n (placeOf n (getD (a .m .table) (a .d - 1) noProcess .task))) noProcess .register)) found
-    ∙ sym (w .0),
-    c .before .before .finish2 .ensures .1
-    ∙ ap (λ f. pageBy n f (getD (a .m .table) (a .d - 1) noProcess .task) (a .page .now)) found
-    ∙ sym (w .1))
+    c .before .before .before .before .find-page .ensures
+    ∙ ap (λ p. findOf n (a .m .day .event + 1) (c .before .before .before .before .before .before .before .before .before .place-of .result) (c .before .before .before .before .before .before .before .record-at2 .result .register) p) own
+    ∙ ap₂ (λ x y. findOf n (a .m .day .event + 1) x y (getD (a .m .table) (a .d - 1) noProcess)) at read in (
+      c .before .before .finish2 .ensures .0
+          ∙ ap₂ (λ x y. turnedInto (a .m) (a .d - 1) n x y (c .before .before .before .before .find-page .result)) at read
+          ∙ ap (turnedInto (a .m) (a .d - 1) n (placeOf n (getD (a .m .table) (a .d - 1) noProcess .task))
+          (getD (a .m .table) (placeAt n (placeOf n (getD (a .m .table) (a .d - 1) noProcess .task))) noProcess .register)) found
+          ∙ sym (w .0),
+      c .before .before .finish2 .ensures .1
+          ∙ ap (λ f. pageBy n f (getD (a .m .table) (a .d - 1) noProcess .task) (a .page .now)) found
+          ∙ sym (w .1),
+    )
 
 pub turn-on-spec : {M : Type 1} → statement M
 turn-on-spec =
