@@ -3,7 +3,7 @@ use Prim.Native.Nat.{ℕ, _+_, _<_}
 use mathlib.Core.Bool.{cond}
 use mathlib.Core.List.{[]}
 use mathlib.Core.Option.{Option, none, some}
-use lib.ListN.{take, getD, set}
+use lib.ListN.{take, getD, set, replicate}
 use lib.Dec.{ltb}
 use Rattle.snapshot.specs.Lists.{over}
 use Rattle.snapshot.specs.Demand.{Result}
@@ -15,10 +15,14 @@ use Rattle.unbounded.specs.declared.memory.Stepped.{Stepped}
 use Rattle.unbounded.specs.declared.Process.{Process}
 use Rattle.unbounded.specs.declared.Register.{Register}
 use Rattle.unbounded.specs.declared.turns.Find.{Find}
-use Rattle.unbounded.specs.Processes.{noProcess}
+use Rattle.unbounded.specs.Processes.{noProcess, zeroProcess}
 use Rattle.unbounded.specs.Days.{State, calledBy}
 use Rattle.unbounded.specs.Figure3.{turnsOf}
 use Rattle.unbounded.specs.Steps.{stateBy, answerBy}
+
+-- "A blank day has both 0": with records of zeros
+abbrev pub blankMemory : Memory
+blankMemory = record { day = record { count = 0; event = 0 }; table = replicate 8 zeroProcess }
 
 -- how many of eight records are lent where n are asked for
 abbrev pub sizeOf : ℕ → ℕ

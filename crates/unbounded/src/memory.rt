@@ -25,7 +25,7 @@ ghost use Rattle.unbounded.specs.Steps.{asOption, pageBy, isReady, place
 ghost use Rattle.unbounded.specs.Processes.{noProcess, zeroProcess};
 ghost use Rattle.unbounded.specs.Registers.{ascending};
 ghost use Rattle.unbounded.specs.Turns.{placeAt};
-ghost use Rattle.unbounded.specs.Memories.{lentBy, sizeOf, stored, Sound, turnedInto, finished, calledWith, calledOr};
+ghost use Rattle.unbounded.specs.Memories.{lentBy, sizeOf, stored, Sound, turnedInto, finished, calledWith, calledOr, blankMemory};
 
 // The day and eight records, of which as many are lent as the day has processes.
 pub struct Memory {
@@ -47,7 +47,7 @@ pub fn size_of(n: u32) -> usize
 }
 
 // Whether some of the first n records cannot have arisen at event number e.
-pub fn some_bad(n: usize, most: u32, e: u32, table: [Process; 8]) -> bool
+fn some_bad(n: usize, most: u32, e: u32, table: [Process; 8]) -> bool
     requires { ⌜ n ≤ 8 ⌝ }
     ensures { λ b. ⌜ b ≡ someOf (unsound most e) (take n table) ⌝ }
     ensures { λ b. ⌜ length table ≡ 8 ⌝ }
@@ -63,7 +63,7 @@ pub fn some_bad(n: usize, most: u32, e: u32, table: [Process; 8]) -> bool
 }
 
 // Whether a task is an update that is ready to write.
-pub fn is_ready(k: Task) -> bool
+fn is_ready(k: Task) -> bool
     ensures { λ b. ⌜ b ≡ isReady k ⌝ }
 {
     match k {
@@ -79,7 +79,7 @@ pub fn is_ready(k: Task) -> bool
 }
 
 // Where the next read of a task stands in its double collect.
-pub fn place_of(n: usize, k: Task) -> usize
+fn place_of(n: usize, k: Task) -> usize
     requires { ⌜ (0 < n) × (n ≤ 8) ⌝ }
     ensures { λ r. ⌜ r ≡ placeOf n k ⌝ }
     ensures { λ r. ⌜ r < 2 * n ⌝ }
@@ -97,7 +97,7 @@ pub fn place_of(n: usize, k: Task) -> usize
 }
 
 // The first n of eight words laid over the first n of a list.
-pub fn lay_words(n: usize, words: [u32; 8], page: &mut [u32])
+fn lay_words(n: usize, words: [u32; 8], page: &mut [u32])
     requires { ⌜ (n ≤ 8) × (n ≤ length (now page)) ⌝ }
     ensures { λ r. ⌜ now (page .exit) ≡ over n words (now (page .entry)) ⌝ }
 {
@@ -109,7 +109,7 @@ pub fn lay_words(n: usize, words: [u32; 8], page: &mut [u32])
 }
 
 // The words of a page that a scan found, laid over the first n of the page list; any other turn leaves the list.
-pub fn lay_page(n: usize, k: Task, f: Find, page: &mut [u32])
+fn lay_page(n: usize, k: Task, f: Find, page: &mut [u32])
     requires { ⌜ (n ≤ 8) × (n ≤ length (now page)) ⌝ }
     ensures { λ r. ⌜ now (page .exit) ≡ pageBy n f k (now (page .entry)) ⌝ }
 {
@@ -131,7 +131,7 @@ pub fn lay_page(n: usize, k: Task, f: Find, page: &mut [u32])
 }
 
 // The refusal of a call or a turn of process d, if any: whether its page list is short, and whether it is a call.
-pub fn plan(m: Memory, short: bool, d: u32, call: bool) -> Check
+fn plan(m: Memory, short: bool, d: u32, call: bool) -> Check
     ensures { λ c. ⌜ asOption c ≡ firstCause (itemCauses (lentBy (m .day .count) m) d short call) ⌝ }
 {
     let day = m.day;
@@ -157,7 +157,7 @@ pub fn plan(m: Memory, short: bool, d: u32, call: bool) -> Check
 }
 
 // Record i of the table.
-pub fn record_at(table: [Process; 8], i: usize) -> Process
+fn record_at(table: [Process; 8], i: usize) -> Process
     requires { ⌜ i < 8 ⌝ }
     ensures { λ p. ⌜ p ≡ getD table i noProcess ⌝ }
     ensures { λ p. ⌜ length table ≡ 8 ⌝ }
@@ -166,7 +166,7 @@ pub fn record_at(table: [Process; 8], i: usize) -> Process
 }
 
 // The memory one event on, with p for record i.
-pub fn store(m: Memory, i: usize, p: Process) -> Memory
+fn store(m: Memory, i: usize, p: Process) -> Memory
     requires { ⌜ (i < 8) × (m .day .event < 65535) ⌝ }
     ensures { λ x. ⌜ x ≡ stored m i p ⌝ }
 {
@@ -180,7 +180,7 @@ pub fn store(m: Memory, i: usize, p: Process) -> Memory
 }
 
 // The place, in its collect, of the read at a position.
-pub fn row_of(n: usize, pos: usize) -> usize
+fn row_of(n: usize, pos: usize) -> usize
     requires { ⌜ pos < 2 * n ⌝ }
     ensures { λ r. ⌜ r ≡ placeAt n pos ⌝ }
 {
@@ -188,7 +188,7 @@ pub fn row_of(n: usize, pos: usize) -> usize
 }
 
 // The end of a turn of record i, which read r at a position and found f.
-pub fn finish(
+fn finish(
     m: Memory,
     i: usize,
     n: usize,
@@ -212,7 +212,7 @@ pub fn finish(
 }
 
 // A turn of process d that is accepted. A ready update writes and reads nothing; any other task reads one register.
-pub fn turn_on(m: Memory, d: u32, page: &mut [u32]) -> Stepped
+fn turn_on(m: Memory, d: u32, page: &mut [u32]) -> Stepped
     requires { ⌜ refusal (lentBy (m .day .count) m) (turnOf d (now page)) ≡ none ⌝ }
     ensures { λ x. ⌜ x ≡ finished (m .day .count) m (accept ascending (lentBy (m .day .count) m) (turnOf d (now (page .entry)))) ⌝ }
     ensures { λ x. ⌜ now (page .exit) ≡ accept ascending (lentBy (m .day .count) m) (turnOf d (now (page .entry))) .page ⌝ }
@@ -234,7 +234,7 @@ pub fn turn_on(m: Memory, d: u32, page: &mut [u32]) -> Stepped
 }
 
 // An accepted call of process d: it only sets the task.
-pub fn call_on(m: Memory, d: u32, k: Task) -> Stepped
+fn call_on(m: Memory, d: u32, k: Task) -> Stepped
     requires { ⌜ firstCause (itemCauses (lentBy (m .day .count) m) d false true) ≡ none ⌝ }
     ensures { λ x. ⌜ x ≡ finished (m .day .count) m (calledWith (lentBy (m .day .count) m) d k) ⌝ }
 {
@@ -328,4 +328,13 @@ pub fn open(m: Memory, k: u32) -> Stepped
             }
         }
     }
+}
+
+// A blank day, with records of zeros.
+pub fn blank() -> Memory
+    ensures { λ m. ⌜ m ≡ blankMemory ⌝ }
+{
+    let day = Day { count: 0, event: 0 };
+    let p = checks::zero();
+    Memory { day, table: [p; 8] }
 }

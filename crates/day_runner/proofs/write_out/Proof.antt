@@ -1,0 +1,29 @@
+-- `day_runner::write_out` is safe: the part is within the buffer.
+use mathlib.Core.Path.{sym}
+use lib.Seq.{length-take-le}
+use borrow.Author.Needs.{needs}
+use Rattle.day_runner.proofs.write_out.Statement.{statement}
+use Rattle.day_runner.proofs.write_out.Tie as tie
+use Rattle.day_runner.proofs.write_out.Reads as reads
+use Rattle.day_runner.proofs.write_out.Lts as lts
+use Rattle.io.proofs.write_all.Reads as write-all-reads
+
+-- src/main.rt:14:9
+returns : tie.Need-returns
+returns c = search needs
+
+-- src/main.rt:16:34
+slice-aggregate-write-all : tie.Need-slice-aggregate-write-all
+slice-aggregate-write-all c = sym (length-take-le _ _ (c .before .if1 .left))
+
+-- src/main.rt:16:5
+write-all-requires : tie.Need-write-all-requires
+write-all-requires c κs = search needs
+
+-- src/main.rt:12:1
+returns-2 : tie.Need-returns-2
+returns-2 c = search needs
+
+pub write-out-spec : {M : Type 1} → statement M
+write-out-spec =
+    tie.close (tie.spec returns slice-aggregate-write-all write-all-requires returns-2)

@@ -1,0 +1,2 @@
+-- What the day runner keeps true of its input buffer.
+pub mod Input

@@ -1,0 +1,97 @@
+use Prim.Native.Nat.{ℕ}
+use native.Mathlib.Omega.{arith}
+use mathlib.Core.Path.{_≡_}
+use mathlib.Core.List.{List, _++_, map, append-assoc}
+use borrow.Author.Needs.{needs}
+use Rattle.daytext.specs.declared.Line.the-variants.{Page}
+use Rattle.daytext.specs.Ascii.{ascii}
+use Rattle.daytext.specs.Decimal.{decimal}
+use Rattle.daytext.specs.Lines.{spaced, bodyOf}
+use Rattle.daytext.proofs.Laying.{in-turn, laid-as}
+use Rattle.daytext.proofs.lines.page.Statement.{statement}
+use Rattle.daytext.proofs.lines.page.Tie as tie
+
+-- the parts, as they are laid
+page-text : (e p l i t : ℕ) (ws : List ℕ)
+    → decimal e ++ (ascii " page " ++ decimal p) ++ (ascii " from " ++ decimal l)
+    ++ (ascii " at " ++ decimal i)
+    ++ (ascii " turns " ++ decimal t)
+    ++ ascii " words"
+    ++ spaced (map decimal ws)
+    ≡ bodyOf (Page e p l i t) ws
+unfolding bodyOf
+page-text e p l i t ws = simp append-assoc
+
+slice-aggregate-event-with : tie.Need-slice-aggregate-event-with
+slice-aggregate-event-with c = search needs
+
+slice-aggregate-event-with-2 : tie.Need-slice-aggregate-event-with-2
+slice-aggregate-event-with-2 c = search needs
+
+event-with-requires : tie.Need-event-with-requires
+event-with-requires c κs = search needs
+
+slice-aggregate-field : tie.Need-slice-aggregate-field
+slice-aggregate-field c = search needs
+
+field-requires : tie.Need-field-requires
+field-requires c κs = search needs
+
+slice-aggregate-field-2 : tie.Need-slice-aggregate-field-2
+slice-aggregate-field-2 c = search needs
+
+field-requires-2 : tie.Need-field-requires-2
+field-requires-2 c κs = search needs
+
+slice-aggregate-bytes : tie.Need-slice-aggregate-bytes
+slice-aggregate-bytes c = search needs
+
+bytes-requires : tie.Need-bytes-requires
+bytes-requires c κs = search needs
+
+numbers-requires : tie.Need-numbers-requires
+numbers-requires c κs = search needs
+
+same-length : tie.Need-same-length
+same-length c = search needs
+
+-- the places after each call, from the last to the first
+module _ (c : tie.After-slice-known6) where
+  abbrev at-numbers : tie.After-numbers
+  at-numbers = c .before .before
+
+  abbrev at-words : tie.After-bytes
+  at-words = at-numbers .before .before .before .before
+
+  abbrev at-turns : tie.After-field2
+  at-turns = at-words .before .before .before .before .before
+
+  abbrev at-instant : tie.After-field
+  at-instant = at-turns .before .before .before .before .before
+
+  abbrev at-lender : tie.After-event-with
+  at-lender = at-instant .before .before .before .before .before
+
+returns : tie.Need-returns
+returns c =
+    let instant = in-turn (omega arith) (at-lender c .event-with .ensures .0) (at-instant c .field .ensures .0) in
+    let turns = in-turn (omega arith) instant (at-turns c .field2 .ensures .0) in
+    let words = in-turn (omega arith) turns (at-words c .bytes .ensures) in
+    (laid-as (page-text _ _ _ _ _ _) (in-turn (omega arith) words (at-numbers c .numbers .ensures .0)), search needs)
+
+pub page-spec : {M : Type 1} → statement M
+page-spec =
+    tie.close
+    (tie.spec
+    slice-aggregate-event-with
+    slice-aggregate-event-with-2
+    event-with-requires
+    slice-aggregate-field
+    field-requires
+    slice-aggregate-field-2
+    field-requires-2
+    slice-aggregate-bytes
+    bytes-requires
+    numbers-requires
+    same-length
+    returns)

@@ -1,0 +1,34 @@
+-- What it is to lay text into a lent buffer.
+use Prim.Native.Nat.{ℕ, _+_}
+use mathlib.Core.Path.{_≡_}
+use mathlib.Core.Bool.{Bool, cond, _&&_}
+use mathlib.Core.List.{List, _++_}
+use lib.Dec.{leb}
+use lib.ListN.{length, take, drop}
+use Rattle.daytext.specs.declared.Line.{Line}
+use Rattle.daytext.specs.Lines.{textOf}
+
+-- the buffer with the text from place at on, and as it was before and after the text
+unfoldable pub laid : List ℕ → ℕ → List ℕ → List ℕ
+laid out at text = take at out ++ text ++ drop (at + length text) out
+
+-- the text was laid into the buffer out from place at on: the buffer after that, and the place r after the text
+pub record Laid (out : List ℕ) (at : ℕ) (text after : List ℕ) (r : ℕ) : Type 0 where
+  pub buffer : after ≡ laid out at text
+  pub place : r ≡ at + length text
+
+-- the bytes that are kept free for one line
+abbrev pub longest : ℕ
+longest = 256
+
+-- whether a line is laid: there are at most eight words, and room for the longest line
+unfoldable pub isLaid : List ℕ → List ℕ → ℕ → Bool
+isLaid ws out at = leb (length ws) 8 && leb (at + longest) (length out)
+
+-- the place after the line, or the same place where it is not laid
+unfoldable pub laidPlace : Line → List ℕ → List ℕ → ℕ → ℕ
+laidPlace line ws out at = cond (isLaid ws out at) (at + length (textOf line ws)) at
+
+-- the buffer with the line, or as it was where it is not laid
+unfoldable pub laidText : Line → List ℕ → List ℕ → ℕ → List ℕ
+laidText line ws out at = cond (isLaid ws out at) (laid out at (textOf line ws)) out

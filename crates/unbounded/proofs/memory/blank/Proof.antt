@@ -1,0 +1,18 @@
+-- `unbounded::memory::blank` meets its contract.
+use borrow.Author.Needs.{needs}
+use Rattle.unbounded.proofs.memory.blank.Statement.{statement}
+use Rattle.unbounded.proofs.memory.blank.Tie as tie
+use Rattle.unbounded.proofs.memory.blank.Reads as reads
+use Rattle.unbounded.proofs.memory.blank.Lts as lts
+use Rattle.unbounded.proofs.checks.zero.Reads as zero-reads
+
+-- src/memory.rt:338:9
+zero-requires : tie.Need-zero-requires
+zero-requires c κs = search needs
+
+-- src/memory.rt:334:1
+returns : tie.Need-returns
+returns c = rw (c .zero .ensures)
+
+pub blank-spec : {M : Type 1} → statement M
+blank-spec = tie.close (tie.spec zero-requires returns)

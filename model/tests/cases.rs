@@ -1,0 +1,132 @@
+//! The days of document 01, A to J, by their stated results.
+
+use model::days::full_day;
+use model::papers::{missing, Case, CASES, ENDINGS};
+use model::register::{Day, Desk, Refusal, Turn, LAST_EVENT};
+use model::{runner, text};
+
+fn printed(file: &[u8]) -> String {
+    let mut out = Vec::new();
+    runner::run(file, &mut out).unwrap();
+    String::from_utf8(out).unwrap()
+}
+
+fn case(name: &str) -> &'static Case {
+    CASES.iter().find(|case| case.name == name).unwrap()
+}
+
+fn states(name: &str) {
+    let printed = printed(&text::to_bytes(case(name).day).unwrap());
+    assert_eq!(missing(case(name), &printed), None, "{printed}");
+}
+
+fn opened(n: u32) -> (Day, Vec<Desk>) {
+    let mut day = Day::default();
+    let mut table = vec![Desk::default(); n as usize];
+    day.open(&mut table, n).unwrap();
+    (day, table)
+}
+
+#[test]
+fn a_one_desk_enters_and_reads() {
+    states("A");
+    let wanted = case("A").prints.join("\n") + "\n";
+    assert_eq!(printed(&text::to_bytes(case("A").day).unwrap()), wanted);
+}
+
+#[test]
+fn b_a_page_is_borrowed() {
+    states("B");
+}
+
+#[test]
+fn b_row_2_holds_9_at_its_end() {
+    let mut row = 0;
+    let file = text::to_bytes(case("B").day).unwrap();
+    runner::run_watched(file.as_slice(), Vec::new(), |_, _, now| row = now.table[1].row.word)
+        .unwrap();
+    assert_eq!(row, 9);
+}
+
+#[test]
+fn c_the_seq_shows_what_the_word_hides() {
+    states("C");
+}
+
+#[test]
+fn d_two_desks_move_in_one_double_collect() {
+    states("D");
+}
+
+#[test]
+fn e_f_desk_counts() {
+    states("E");
+    states("F");
+    for n in [0, 9, 10, u32::MAX] {
+        let mut table = vec![Desk::default(); 9];
+        assert_eq!(Day::default().open(&mut table, n), Err(Refusal::DeskCount));
+    }
+    for n in 1..=8 {
+        opened(n);
+    }
+}
+
+#[test]
+fn g_desks_that_are_not_there() {
+    states("G");
+    for n in 1..=8 {
+        let (mut day, mut table) = opened(n);
+        for desk in [0, n + 1, u32::MAX] {
+            assert_eq!(day.turn(&mut table, desk, &mut [0; 8]), Err(Refusal::NoSuchDesk));
+        }
+    }
+}
+
+#[test]
+fn h_page_lists() {
+    states("H");
+    for n in 1..=8 {
+        let (mut day, mut table) = opened(n);
+        day.page(&mut table, 1).unwrap();
+        let mut page = vec![5; n as usize];
+        let short = &mut page[1..];
+        assert_eq!(day.turn(&mut table, 1, short), Err(Refusal::LentSize));
+        assert_eq!(day.turn(&mut table, 1, &mut page), Ok(Turn::Read));
+        assert_eq!(page, vec![5; n as usize]);
+    }
+}
+
+#[test]
+fn i_the_last_event() {
+    for (n, busy) in [(1, false), (1, true), (2, true), (8, true)] {
+        let printed = printed(&full_day(n, busy, 1));
+        let lines: Vec<&str> = printed.lines().collect();
+        let first = format!("{LAST_EVENT} ");
+        let last = lines.iter().position(|line| line.starts_with(&first)).unwrap();
+        let after = &lines[last + 1..];
+        assert_eq!(after.last(), Some(&"end 65535"));
+        // Desks 0 and n+1 with three records each, an opening and the end.
+        let desks = &after[3..after.len() - 5];
+        for answers in desks.chunks(3) {
+            let idle = ["refused 5", "refused 5", "refused 4"];
+            let waiting = ["refused 3", "refused 3", "refused 5"];
+            assert!(answers == idle || answers == waiting, "{answers:?}");
+        }
+        assert!(n == 1 || desks.contains(&"refused 3") && desks.contains(&"refused 4"));
+    }
+}
+
+#[test]
+fn j_a_second_call() {
+    states("J");
+    let with = printed(&text::to_bytes(case("J").day).unwrap());
+    let without = printed(&text::to_bytes("open 1\npage 1\nturn 1 x2").unwrap());
+    assert_eq!(with.replace("refused 3\n", ""), without);
+}
+
+#[test]
+fn files_that_break_off() {
+    for (lines, wanted) in ENDINGS {
+        assert_eq!(printed(&text::to_bytes(lines).unwrap()), wanted);
+    }
+}
