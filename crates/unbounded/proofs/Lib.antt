@@ -1,4 +1,5 @@
 -- Theorems about Figure 3's method.
+pub mod Walks
 pub mod Limits
 pub mod Marks
 pub mod Places

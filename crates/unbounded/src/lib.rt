@@ -57,4 +57,5 @@ pub fn most_reads(n: u32) -> u32
 mod arrays;
 mod checks;
 pub mod memory;
+mod table;
 mod turns;

@@ -273,3 +273,17 @@ pub fn answer(k: Task, f: Find) -> Answer
         } => Answer::Written { turns: turns + 1 },
     }
 }
+
+// The task of a record.
+pub fn task_of(p: Process) -> Task
+    ensures { λ k. ⌜ k ≡ p .task ⌝ }
+{
+    p.task
+}
+
+// The register of a record.
+pub fn register_of(p: Process) -> Register
+    ensures { λ r. ⌜ r ≡ p .register ⌝ }
+{
+    p.register
+}
