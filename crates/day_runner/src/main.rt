@@ -2,7 +2,7 @@
 // `end` and the event number. A read that fails counts as the end of the input; a write that fails ends the run.
 use libc::STDIN_FILENO;
 use libc::STDOUT_FILENO;
-use records::Ran;
+use records::Running;
 use unbounded::memory;
 ghost use lib.ListN.{length};
 ghost use Rattle.day_runner.specs.Input.{Within};
@@ -19,17 +19,18 @@ fn write_out(buf: &[u8], n: usize) -> bool {
 }
 
 // Fills up the input, runs the records that lie whole in it, and writes the output where it is nearly full or all is done.
-fn pass(r: Ran, bytes: &mut [u8], out: &mut [u8]) -> Ran
-    requires { ⌜ Within (r .input) (length (now bytes)) ⌝ }
-    ensures { λ x. ⌜ Within (x .input) (length (now (bytes .exit))) ⌝ }
+fn pass(r: Running, bytes: &mut [u8], out: &mut [u8]) -> Running
+    requires { ⌜ Within (r .place .input) (length (now bytes)) ⌝ }
+    ensures { λ x. ⌜ Within (x .place .input) (length (now (bytes .exit))) ⌝ }
 {
-    let before = r.input;
+    let at = r.place;
+    let before = at.input;
     let input = input::refill(STDIN_FILENO, bytes, before);
     let ran = records::run(records::refilled(r, input), bytes, out);
     if records::is_waiting(ran, out.len()) {
         return ran;
     }
-    let went = write_out(out, ran.written);
+    let went = write_out(out, ran.place.written);
     records::flushed(ran, went)
 }
 
@@ -39,7 +40,7 @@ fn main() {
     let mut out = io::large_buffer();
     let mut ran = records::start(memory::blank());
     let mut passes = u64::MAX;
-    while passes > 0 && !ran.ended {
+    while passes > 0 && !ran.place.ended {
         ran = pass(ran, &mut bytes, &mut out);
         passes -= 1;
     }

@@ -1,13 +1,15 @@
 // The records in the input buffer: each is read, run on the memory, and its line laid into the output.
 use crate::input::Input;
 ghost use mathlib.Core.Path.{_≡_};
+ghost use Prim.Native.Nat.{_+_, _≤_};
 ghost use lib.ListN.{length};
-ghost use Rattle.day_runner.specs.Input.{Within};
+ghost use Rattle.day_runner.specs.Input.{Within, Ends};
 use dayfile::Reading;
 use dayfile::Record;
 use daytext::LONGEST;
 use daytext::Line;
 use snapshot::Answer;
+use unbounded::Day;
 use unbounded::memory;
 use unbounded::memory::Memory;
 use unbounded::memory::Stepped;
@@ -15,67 +17,76 @@ use unbounded::memory::Stepped;
 // The longest record, in bytes.
 const WHOLE: usize = 10;
 
-// Where a run stands: the memory, the input, how much of the output is laid, and whether all is done.
-pub struct Ran {
-    pub memory: Memory,
+// Where a run stands: the input, how much of the output is laid, and whether all is done.
+pub struct Place {
     pub input: Input,
     pub written: usize,
     pub ended: bool,
 }
 
-pub fn start(m: Memory) -> Ran
-    ensures { λ r. ⌜ Within (r .input) 0 ⌝ }
+// The memory, and where the run stands.
+pub struct Running {
+    pub memory: Memory,
+    pub place: Place,
+}
+
+// The beginning, on a memory.
+pub fn start(memory: Memory) -> Running
+    ensures { λ r. ⌜ Within (r .place .input) 0 ⌝ }
 {
     let input = Input {
         at: 0,
         end: 0,
         last: false,
     };
-    Ran {
-        memory: m,
+    let place = Place {
         input,
         written: 0,
         ended: false,
-    }
+    };
+    Running { memory, place }
 }
 
 // Whether the output can take more before it is written.
-pub fn is_waiting(r: Ran, room: usize) -> bool {
-    if r.ended {
+pub fn is_waiting(r: Running, room: usize) -> bool {
+    let place = r.place;
+    if place.ended {
         return false;
     }
-    if room < r.written {
+    if room < place.written {
         return false;
     }
-    3 * LONGEST <= room - r.written
+    3 * LONGEST <= room - place.written
 }
 
 // After the output was written, or could not be.
-pub fn flushed(r: Ran, went: bool) -> Ran
-    ensures { λ x. ⌜ x .input ≡ r .input ⌝ }
+pub fn flushed(r: Running, went: bool) -> Running
+    ensures { λ x. ⌜ x .place .input ≡ r .place .input ⌝ }
 {
     let memory = r.memory;
-    let input = r.input;
-    let ended = if went { r.ended } else { true };
-    Ran {
-        memory,
+    let before = r.place;
+    let input = before.input;
+    let ended = if went { before.ended } else { true };
+    let place = Place {
         input,
         written: 0,
         ended,
-    }
+    };
+    Running { memory, place }
 }
 
 // A run whose input was filled up.
-pub fn refilled(r: Ran, input: Input) -> Ran
-    ensures { λ x. ⌜ x .input ≡ input ⌝ }
+pub fn refilled(r: Running, input: Input) -> Running
+    ensures { λ x. ⌜ x .place .input ≡ input ⌝ }
 {
     let memory = r.memory;
-    Ran {
-        memory,
+    let before = r.place;
+    let place = Place {
         input,
-        written: r.written,
-        ended: r.ended,
-    }
+        written: before.written,
+        ended: before.ended,
+    };
+    Running { memory, place }
 }
 
 // The item of a record on a memory, with a page list of eight words.
@@ -137,24 +148,6 @@ fn line_of(r: Record, event: u32, a: Answer) -> Line {
     }
 }
 
-// A memory after a record, and the place after its line.
-struct Laid {
-    memory: Memory,
-    to: usize,
-}
-
-// Runs one record and lays its line.
-fn one(m: Memory, r: Record, out: &mut [u8], to: usize) -> Laid {
-    let mut page = [0u32; 8];
-    let s = step(m, r, &mut page);
-    let memory = s.memory;
-    let a = s.answer;
-    let line = line_of(r, memory.day.event, a);
-    let n = memory::size_of(memory.day.count);
-    let next = daytext::lay(line, &page[..n], out, to);
-    Laid { memory, to: next }
-}
-
 // The line of a refusal that ended the file, if one did.
 fn refused_line(reading: Reading, out: &mut [u8], to: usize) -> usize {
     match reading {
@@ -168,21 +161,58 @@ fn refused_line(reading: Reading, out: &mut [u8], to: usize) -> usize {
 }
 
 // The end of the run: the refusal, if the file ended with one, and the line with the event number.
-fn last_lines(event: u32, reading: Reading, out: &mut [u8], to: usize) -> usize {
-    let at = refused_line(reading, out, to);
-    daytext::lay(Line::End { event }, &[], out, at)
+fn end_of(at: Place, reading: Reading, event: u32, out: &mut [u8]) -> Place
+    ensures { λ x. ⌜ x .input ≡ at .input ⌝ }
+{
+    let input = at.input;
+    let to = refused_line(reading, out, at.written);
+    let written = daytext::lay(Line::End { event }, &[], out, to);
+    Place {
+        input,
+        written,
+        ended: true,
+    }
+}
+
+// The place after a record that took so many bytes, once its line is laid.
+fn past(
+    at: Place,
+    bytes: usize,
+    r: Record,
+    day: Day,
+    a: Answer,
+    page: &[u32],
+    out: &mut [u8],
+) -> Place
+    requires { ⌜ (at .input .at + bytes ≤ at .input .end) × (length (now page) ≡ 8) ⌝ }
+    ensures { λ x. ⌜ (x .input .at ≡ at .input .at + bytes) × (x .input .end ≡ at .input .end) ⌝ }
+{
+    let input = at.input;
+    let line = line_of(r, day.event, a);
+    let n = memory::size_of(day.count);
+    let written = daytext::lay(line, &page[..n], out, at.written);
+    let rest = Input {
+        at: input.at + bytes,
+        end: input.end,
+        last: input.last,
+    };
+    Place {
+        input: rest,
+        written,
+        ended: false,
+    }
 }
 
 // Whether the next record can be run: it lies whole in the input, and the output has room for its line and the last two.
-fn can_go(r: Ran, room: usize) -> bool {
-    let input = r.input;
-    if r.ended {
+fn can_go(at: Place, room: usize) -> bool {
+    let input = at.input;
+    if at.ended {
         return false;
     }
-    if room < r.written {
+    if room < at.written {
         return false;
     }
-    if room - r.written < 3 * LONGEST {
+    if room - at.written < 3 * LONGEST {
         return false;
     }
     if input.last {
@@ -194,51 +224,42 @@ fn can_go(r: Ran, room: usize) -> bool {
     WHOLE <= input.end - input.at
 }
 
-// Runs the next record of the input, or ends the run.
-fn advance(r: Ran, bytes: &[u8], out: &mut [u8]) -> Ran
-    requires { ⌜ Within (r .input) (length (now bytes)) ⌝ }
-    ensures { λ x. ⌜ Within (x .input) (length (now (bytes .entry))) ⌝ }
+// The next record of the input, or how it ends.
+fn next_of(at: Place, bytes: &[u8]) -> Reading
+    requires { ⌜ Within (at .input) (length (now bytes)) ⌝ }
+    ensures { λ x. ⌜ Ends x (at .input) ⌝ }
 {
-    let memory = r.memory;
-    let input = r.input;
-    let at = input.at;
+    let input = at.input;
+    let start = input.at;
     let end = input.end;
-    let reading = dayfile::read(&bytes[at..end]);
-    let Reading::Found { record, next } = reading else {
-        let written = last_lines(memory.day.event, reading, out, r.written);
-        return Ran {
-            memory,
-            input,
-            written,
-            ended: true,
-        };
-    };
-    let laid = one(memory, record, out, r.written);
-    let after = laid.memory;
-    let rest = Input {
-        at: at + next,
-        end,
-        last: input.last,
-    };
-    Ran {
-        memory: after,
-        input: rest,
-        written: laid.to,
-        ended: false,
-    }
+    dayfile::read(&bytes[start..end])
 }
 
 // Runs the records that lie whole in the input, as long as the output has room. No record is empty, so there are at most as many
 // as bytes.
-pub fn run(r: Ran, bytes: &[u8], out: &mut [u8]) -> Ran
-    requires { ⌜ Within (r .input) (length (now bytes)) ⌝ }
-    ensures { λ x. ⌜ Within (x .input) (length (now (bytes .entry))) ⌝ }
+pub fn run(r: Running, bytes: &[u8], out: &mut [u8]) -> Running
+    requires { ⌜ Within (r .place .input) (length (now bytes)) ⌝ }
+    ensures { λ x. ⌜ Within (x .place .input) (length (now (bytes .entry))) ⌝ }
 {
-    let mut now = r;
+    let mut memory = r.memory;
+    let mut place = r.place;
+    let mut page = [0u32; 8];
     let mut left = bytes.len();
-    while left > 0 && can_go(now, out.len()) {
-        now = advance(now, bytes, out);
+    while left > 0 && can_go(place, out.len()) {
+        let reading = next_of(place, bytes);
+        let Reading::Found { record, next } = reading else {
+            let last = end_of(place, reading, memory.day.event, out);
+            return Running {
+                memory,
+                place: last,
+            };
+        };
+        let s = step(memory, record, &mut page);
+        let a = s.answer;
+        memory = s.memory;
+        let day = memory.day;
+        place = past(place, next, record, day, a, &page, out);
         left -= 1;
     }
-    now
+    Running { memory, place }
 }

@@ -15,7 +15,7 @@ use Rattle.io.proofs.large_buffer.Reads as large-buffer-reads
 use Rattle.unbounded.proofs.memory.blank.Reads as blank-reads
 
 abbrev Inv-loop : tie.InvT-loop
-Inv-loop bytes₀ out₀ ran₀ passes₀ bytes out ran passes = Within (ran .input) (length bytes) × (65536 ≡ length bytes) × (65536 ≡ length out)
+Inv-loop bytes₀ out₀ ran₀ passes₀ bytes out ran passes = Within (ran .place .input) (length bytes) × (65536 ≡ length bytes) × (65536 ≡ length out)
 
 abbrev μ-loop : tie.MeasureT-loop
 μ-loop bytes₀ out₀ ran₀ passes₀ bytes out ran passes = passes

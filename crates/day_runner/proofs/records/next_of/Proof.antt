@@ -1,0 +1,42 @@
+-- `day_runner::records::next_of` is safe, and a record takes no more bytes than were lent.
+use Prim.Native.Nat.{_+_, _-_, _≤_}
+use mathlib.Core.Path.{_≡_, sym, _∙_}
+use native.Mathlib.Omega.{arith}
+use lib.ListN.{length, take, drop, length-take}
+use Rattle.dayfile.proofs.Files.{records-ends}
+use borrow.Author.Needs.{needs}
+use Rattle.day_runner.proofs.records.next_of.Statement.{statement}
+use Rattle.day_runner.proofs.records.next_of.Tie as tie
+use Rattle.day_runner.proofs.records.next_of.Reads as reads
+use Rattle.day_runner.proofs.records.next_of.Lts as lts
+use Rattle.dayfile.proofs.read.Reads as read-reads
+
+-- src/records.rt:235:19
+sub-read : tie.Need-sub-read
+sub-read c = search needs
+
+-- src/records.rt:235:19
+part-read-start : tie.Need-part-read-start
+part-read-start c = search needs
+
+-- src/records.rt:235:19
+part-read-end : tie.Need-part-read-end
+part-read-end c = search needs
+
+-- src/records.rt:235:5
+read-requires : tie.Need-read-requires
+read-requires c κs = search needs
+
+-- src/records.rt:228:1
+returns : tie.Need-returns
+returns c r k q =
+    let a = c .before .before .before .before .args in
+    let i = a .at .input in
+    let part = take (i .end - i .at) (drop (i .at) (a .bytes .now)) in
+    let w = records-ends part .consumes r k (sym (c .read .ensures) ∙ q) in
+    let l = length-take (i .end - i .at) (drop (i .at) (a .bytes .now)) in
+    let p = c .before .before .before .before .pre .start in
+    omega arith
+
+pub next-of-spec : {M : Type 1} → statement M
+next-of-spec = tie.close (tie.spec sub-read part-read-start part-read-end read-requires returns)
