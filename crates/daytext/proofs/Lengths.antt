@@ -1,17 +1,14 @@
 -- Every line fits in the bytes that are kept free for it.
-use Prim.Native.Nat.{ℕ, _+_, _*_, _≤_}
-use native.Mathlib.Decide.{decLe}
+use Prim.Native.Nat.{ℕ, _*_, _≤_}
 use native.Mathlib.Omega.{arith}
-use mathlib.Core.Logic.{by-cases}
 use mathlib.Core.List.{List, [], _∷_, map}
 use lib.ListN.{length, length-append}
 use Rattle.daytext.specs.declared.Line.{Line}
 use Rattle.daytext.specs.declared.Line.the-variants.{Opened, Update, Scan, Read, Written, Page, Refused, End}
 use Rattle.daytext.specs.Decimal.{decimal}
 use Rattle.daytext.specs.Lines.{spaced, bodyOf, textOf}
-use Rattle.daytext.specs.Buffer.{longest, laidPlace}
+use Rattle.daytext.specs.Buffer.{longest}
 use Rattle.daytext.proofs.Numerals.{decimal-short}
-use Rattle.daytext.proofs.Laying.{laid-with-room, kept-with-more-words, kept-with-fewer-bytes}
 
 spaced-short : (ns : List ℕ) → length (spaced (map decimal ns)) ≤ 11 * length ns
 spaced-short [] = omega arith
@@ -33,13 +30,3 @@ line-short (End e) ws h = simp length-append (omega (arith, decimal-short e))
 
 pub line-fits : (line : Line) (ws : List ℕ) → length ws ≤ 8 → length (textOf line ws) ≤ longest
 line-fits line ws h = omega (arith, line-short line ws h)
-
--- the place after a line is within the buffer
-pub place-within : (line : Line) (ws out : List ℕ) (at : ℕ) → at ≤ length out → laidPlace line ws out at ≤ length out
-place-within line ws out at h =
-    by-cases (decLe (length ws) 8)
-    (λ w.
-    by-cases (decLe (at + longest) (length out))
-    (λ r. omega (arith, laid-with-room line ws out at w r .0, line-fits line ws w))
-    (λ r. omega (arith, kept-with-fewer-bytes line ws out at w (omega arith) .0)))
-    (λ w. omega (arith, kept-with-more-words line ws out at (omega arith) .0))

@@ -9,7 +9,7 @@ use mathlib.Core.Logic.{by-cases}
 use mathlib.Core.Bool.{Bool, true, false, cond, _||_, true≢false}
 use mathlib.Core.List.{List, [], _∷_, _++_, map}
 use lib.ListN.{length, getD, take, drop, set, replicate, length-append, length-drop, List·getD-append}
-use lib.Seq.{take-at, getD-take, drop-at, ext-getD, drop-cons, set-at, length-take-le, append-snoc, take-suc, take-take}
+use lib.Seq.{take-at, getD-take, ext-getD, drop-cons, set-at, length-take-le, append-snoc, take-suc, take-take}
 use Rattle.snapshot.specs.Lists.{over, eachFrom, each, firstFrom, firstBelow, someOf}
 
 -- ---- the first n places of a over those of b
@@ -17,9 +17,6 @@ use Rattle.snapshot.specs.Lists.{over, eachFrom, each, firstFrom, firstB
 module _ {A : Type 0} (n : ℕ) (a b : List A) where
   pub take-over : length (take n a) ≡ n → take n (over n a b) ≡ take n a
   take-over l = take-at (take n a) (drop n b) n l
-
-  pub drop-over : length (take n a) ≡ n → drop n (over n a b) ≡ drop n b
-  drop-over l = drop-at (take n a) (drop n b) n l
 
   pub length-over : length (take n a) ≡ n → n ≤ length b → length (over n a b) ≡ length b
   length-over l m = simp (length-append, length-drop) (omega arith)
@@ -112,24 +109,6 @@ some-of-false f (x ∷ l) z h (suc i) w = some-of-false f l z (go (f x) h) i (om
     go : (b : Bool) → (b || someOf f l) ≡ false → someOf f l ≡ false
     go true q = absurd (true≢false q)
     go false q = q
-
--- one element more
-pub some-of-more : {A : Type 0} (f : A → Bool) (l : List A) (i : ℕ) (z : A) → i < length l →
-    someOf f (take (i + 1) l) ≡ (someOf f (take i l) || f (getD l i z))
-some-of-more {A} f l i z h =
-    ap (λ k. someOf f (take k l)) (add-one i) ∙ ap (someOf f) (take-suc l i z h) ∙ some-of-last (take i l) (getD l i z)
-  where
-    or-assoc : (a b c : Bool) → (a || (b || c)) ≡ ((a || b) || c)
-    or-assoc true b c = refl
-    or-assoc false b c = refl
-
-    or-last : (a : Bool) → (a || false) ≡ a
-    or-last true = refl
-    or-last false = refl
-
-    some-of-last : (a : List A) (x : A) → someOf f (a ++ (x ∷ [])) ≡ (someOf f a || f x)
-    some-of-last [] x = or-last (f x)
-    some-of-last (y ∷ a) x = ap (λ b. f y || b) (some-of-last a x) ∙ or-assoc (f y) (someOf f a) (f x)
 
 -- ---- searches
 

@@ -1,5 +1,9 @@
 -- Theorems about Figure 3's method.
 pub mod Walks
+pub mod Loans
+pub mod PassedOn
+pub mod Checked
+pub mod Passing
 pub mod Limits
 pub mod Marks
 pub mod Places
@@ -14,3 +18,5 @@ pub mod MarkedDays
 pub mod Figure3
 pub mod Steps
 pub mod Memories
+pub mod Tables
+pub mod LocalTable

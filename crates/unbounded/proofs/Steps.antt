@@ -1,6 +1,6 @@
 -- The steps of the code, what a turn finds, the record it leaves, its answer and its page list, are together a turn of `Turns`.
 use Prim.Native.Nat.{ℕ, _+_, _*_, _≤_}
-use mathlib.Core.Path.{_≡_, refl, sym, ap, ap₂, _∙_}
+use mathlib.Core.Path.{_≡_, refl, sym, ap, _∙_}
 use mathlib.Core.Bool.{Bool, true, false, cond, true≢false}
 use mathlib.Core.List.{List, _++_}
 use mathlib.Core.Option.{Option, none, some}
@@ -22,7 +22,7 @@ use Rattle.unbounded.specs.declared.Task.the-variants.{Idle, Scan, Updat
 use Rattle.unbounded.specs.Registers.{ascending, shown, differs, lends, collectedAt}
 use Rattle.unbounded.specs.Processes.{begin}
 use Rattle.unbounded.specs.Turns.{position, firstAfter, secondAfter, endAfter, decision, markFrom, passed, marksAfter, found, afterRead, foundBy, scanTurn, updateTurn, turnedBy}
-use Rattle.unbounded.specs.Steps.{decisionFind, findOf, readBy, scanBy, updateBy, stateBy, pageOr, answerBy, layIf, pageBy, isReady, placeOf}
+use Rattle.unbounded.specs.Steps.{decisionFind, findOf, readBy, stateBy, answerBy, pageBy, isReady, placeOf}
 use Rattle.unbounded.proofs.Places.{shown-long}
 
 -- n words laid over eight zeros and then over a list are those words laid over the list

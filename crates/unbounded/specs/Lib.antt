@@ -7,3 +7,4 @@ pub mod MarkedDays
 pub mod Figure3
 pub mod Steps
 pub mod Memories
+pub mod Tables

@@ -1,15 +1,21 @@
 // The range checks of one record, and the refusals of a call or a turn in document 01's order.
 use crate::Day;
+use crate::Outcome;
 use crate::Process;
 use crate::Register;
 use crate::Task;
+use snapshot::Answer;
 use snapshot::Refusal;
+ghost use Prim.Native.Nat.{_+_, _-_, _<_};
+ghost use lib.Dec.{ltb};
+ghost use Rattle.unbounded.specs.Tables.{isRefusal, refusedOutcome, acceptedOutcome, openedOutcome};
+ghost use Rattle.unbounded.specs.Registers.{zeroRegister};
 ghost use mathlib.Core.Path.{_≡_};
 ghost use mathlib.Core.Bool.{_||_};
 ghost use mathlib.Core.List.{List, [], _∷_, _++_};
 ghost use Rattle.snapshot.specs.Refusals.{firstCause};
 ghost use Rattle.unbounded.specs.Processes.{zeroProcess};
-ghost use Rattle.unbounded.specs.Days.{overdue, unsound, isIdle, firstCauses, lastCauses, openingChecks};
+ghost use Rattle.unbounded.specs.Days.{overdue, unsound, isIdle, firstCauses, lastCauses, stateCause, openingChecks};
 ghost use Rattle.unbounded.specs.Steps.{asOption};
 
 // Whether there is a refusal.
@@ -153,4 +159,106 @@ pub fn open_check(day: Day, size: usize, k: u32) -> Check
         return Check::Refused(Refusal::LentSize);
     }
     Check::Passed
+}
+
+// Whether a check is a refusal.
+pub fn is_refused(c: Check) -> bool
+    ensures { λ b. ⌜ b ≡ isRefusal (asOption c) ⌝ }
+{
+    match c {
+        Check::Passed => false,
+        Check::Refused(k) => true,
+    }
+}
+
+// The outcome of an item that was refused.
+pub fn refused(day: Day, c: Check) -> Outcome
+    ensures { λ x. ⌜ x ≡ refusedOutcome day (asOption c) ⌝ }
+{
+    match c {
+        Check::Passed => Outcome {
+            day,
+            answer: Answer::Read,
+        },
+        Check::Refused(k) => Outcome {
+            day,
+            answer: Answer::Refused(k),
+        },
+    }
+}
+
+// The outcome of an accepted call or turn: one event more.
+pub fn accepted(day: Day, answer: Answer) -> Outcome
+    requires { ⌜ day .event < 65535 ⌝ }
+    ensures { λ x. ⌜ x ≡ acceptedOutcome day answer ⌝ }
+{
+    let next = Day {
+        count: day.count,
+        event: day.event + 1,
+    };
+    Outcome { day: next, answer }
+}
+
+// The last two refusals of a call, or of a turn, of a process with task k.
+pub fn state_check(call: bool, k: Task, event: u32) -> Check
+    ensures { λ c. ⌜ asOption c ≡ firstCause (lastCauses (stateCause k call .0) (stateCause k call .1) event) ⌝ }
+{
+    let idle = is_idle(k);
+    if call {
+        last_check(!idle, Refusal::Busy, event)
+    } else {
+        last_check(idle, Refusal::Idle, event)
+    }
+}
+
+// The index of process d in the table.
+pub fn index_of(d: u32) -> usize
+    requires { ⌜ 0 < d ⌝ }
+    ensures { λ i. ⌜ i ≡ d - 1 ⌝ }
+{
+    (d - 1) as usize
+}
+
+// The number of processes of a day, and the number of its next event.
+pub fn count_of(day: Day) -> usize
+    ensures { λ n. ⌜ n ≡ day .count ⌝ }
+{
+    day.count as usize
+}
+
+pub fn next_event(day: Day) -> u32
+    requires { ⌜ day .event < 65535 ⌝ }
+    ensures { λ e. ⌜ e ≡ day .event + 1 ⌝ }
+{
+    day.event + 1
+}
+
+// Whether a page list is too short for a day.
+pub fn is_short(size: usize, day: Day) -> bool
+    ensures { λ b. ⌜ b ≡ ltb size (day .count) ⌝ }
+{
+    size < day.count as usize
+}
+
+// The outcome of an accepted opening for k processes.
+pub fn opened(k: u32) -> Outcome
+    ensures { λ x. ⌜ x ≡ openedOutcome k ⌝ }
+{
+    let day = Day { count: k, event: 0 };
+    Outcome {
+        day,
+        answer: Answer::Opened,
+    }
+}
+
+// The register that stands for none in a writing turn, which reads no register.
+pub fn no_read() -> Register
+    ensures { λ r. ⌜ r ≡ zeroRegister ⌝ }
+{
+    Register {
+        word: 0,
+        seq: 0,
+        view: [0; 8],
+        at: 0,
+    }
 }

@@ -1,4 +1,5 @@
 // Figure 3, the unbounded single-writer method: the types of its registers and processes, and its limits.
+use snapshot::Answer;
 ghost use mathlib.Core.Path.{_≡_};
 ghost use Rattle.unbounded.specs.Days.{readsUpTo8};
 
@@ -37,6 +38,12 @@ pub struct Day {
     pub event: u32,
 }
 
+// A day after an item, and the item's answer.
+pub struct Outcome {
+    pub day: Day,
+    pub answer: Answer,
+}
+
 // The most reads of a scan, for 1 to 8 processes.
 const MOST_READS: [u32; 8] = [2, 8, 18, 32, 50, 72, 98, 128];
 
@@ -57,5 +64,5 @@ pub fn most_reads(n: u32) -> u32
 mod arrays;
 mod checks;
 pub mod memory;
-mod table;
+pub mod table;
 mod turns;

@@ -7,11 +7,13 @@ use snapshot::Answer;
 ghost use mathlib.Core.Path.{_≡_};
 ghost use Prim.Native.Nat.{_+_, _*_, _≤_, _<_};
 ghost use Rattle.unbounded.specs.Processes.{begin};
-ghost use Rattle.unbounded.specs.Turns.{position, firstAfter, secondAfter, endAfter, written, withRegister};
+ghost use Rattle.unbounded.specs.Turns.{position, placeAt, firstAfter, secondAfter, endAfter, written, withRegister};
 ghost use Rattle.snapshot.specs.Verdict.{verdict};
-ghost use Rattle.unbounded.specs.declared.Task.the-variants.{Idle};
+ghost use Rattle.unbounded.specs.declared.Task.the-variants.{Idle, Scan, Update};
 ghost use Rattle.unbounded.specs.Registers.{ascending, differs, lends};
-ghost use Rattle.unbounded.specs.Steps.{nothingFound, verdictFind, findOf, readBy, stateBy, answerBy};
+ghost use Rattle.unbounded.specs.Steps.{nothingFound, verdictFind, findOf, readBy, stateBy, answerBy, pageBy, isReady, placeOf};
+ghost use lib.ListN.{length};
+ghost use Rattle.snapshot.specs.Lists.{over};
 ghost use Rattle.unbounded.specs.Figure3.{turnsOf};
 
 // What a turn found: a page with its instant and lender, or nothing yet; and how many processes its search for a lender passed.
@@ -286,4 +288,94 @@ pub fn register_of(p: Process) -> Register
     ensures { λ r. ⌜ r ≡ p .register ⌝ }
 {
     p.register
+}
+
+// Whether a task is an update that is ready to write.
+pub fn is_ready(k: Task) -> bool
+    ensures { λ b. ⌜ b ≡ isReady k ⌝ }
+{
+    match k {
+        Task::Idle => false,
+        Task::Scan { turns: _ } => false,
+        Task::Update { word: _, turns: _ } => false,
+        Task::Ready {
+            word: _,
+            at: _,
+            turns: _,
+        } => true,
+    }
+}
+
+// Where the next read of a task stands in its double collect.
+pub fn place_of(n: usize, k: Task) -> usize
+    requires { ⌜ (0 < n) × (n ≤ 8) ⌝ }
+    ensures { λ r. ⌜ r ≡ placeOf n k ⌝ }
+    ensures { λ r. ⌜ r < 2 * n ⌝ }
+{
+    match k {
+        Task::Idle => 0,
+        Task::Scan { turns } => position_of(n, turns),
+        Task::Update { word: _, turns } => position_of(n, turns),
+        Task::Ready {
+            word: _,
+            at: _,
+            turns: _,
+        } => 0,
+    }
+}
+
+// The place, in its collect, of the read at a position.
+pub fn row_of(n: usize, pos: usize) -> usize
+    requires { ⌜ pos < 2 * n ⌝ }
+    ensures { λ r. ⌜ r ≡ placeAt n pos ⌝ }
+{
+    if pos < n { pos } else { pos - n }
+}
+
+// The first n of eight words laid over the first n of a list.
+pub fn lay_words(n: usize, words: [u32; 8], page: &mut [u32])
+    requires { ⌜ (n ≤ 8) × (n ≤ length (now page)) ⌝ }
+    ensures { λ r. ⌜ now (page .exit) ≡ over n words (now (page .entry)) ⌝ }
+{
+    let mut j = 0;
+    while j < n {
+        page[j] = words[j];
+        j += 1;
+    }
+}
+
+// The words of a page that a scan found, laid over the first n of the page list; any other turn leaves the list.
+pub fn lay_page(n: usize, k: Task, f: Find, page: &mut [u32])
+    requires { ⌜ (n ≤ 8) × (n ≤ length (now page)) ⌝ }
+    ensures { λ r. ⌜ now (page .exit) ≡ pageBy n f k (now (page .entry)) ⌝ }
+{
+    let words = f.words;
+    match k {
+        Task::Scan { turns: _ } => {
+            if f.found {
+                lay_words(n, words, page)
+            }
+        }
+        Task::Idle => {}
+        Task::Update { word: _, turns: _ } => {}
+        Task::Ready {
+            word: _,
+            at: _,
+            turns: _,
+        } => {}
+    }
+}
+
+// The task of an update that has had no turn.
+pub fn new_update(word: u32) -> Task
+    ensures { λ k. ⌜ k ≡ Update word 0 ⌝ }
+{
+    Task::Update { word, turns: 0 }
+}
+
+// The task of a scan that has had no turn.
+pub fn new_scan() -> Task
+    ensures { λ k. ⌜ k ≡ Scan 0 ⌝ }
+{
+    Task::Scan { turns: 0 }
 }

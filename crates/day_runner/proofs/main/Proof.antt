@@ -1,8 +1,6 @@
 -- `day_runner::main` is safe: the input is kept within its buffer, and the passes are counted down.
-use Prim.Native.Nat.{_≤_}
-use mathlib.Core.Path.{_≡_, refl, sym, _∙_}
+use mathlib.Core.Path.{_≡_, sym, _∙_}
 use native.Mathlib.Omega.{arith}
-use borrow.Author.Needs.{needs}
 use lib.ListN.{length}
 use Rattle.day_runner.specs.Input.{Within}
 use Rattle.day_runner.proofs.main.Statement.{statement}

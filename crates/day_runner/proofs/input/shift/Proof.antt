@@ -1,6 +1,6 @@
 -- `day_runner::input::shift` is safe: every index is below the length, which stays.
 use Prim.Native.Nat.{_≤_, _-_}
-use mathlib.Core.Path.{_≡_, refl, _∙_}
+use mathlib.Core.Path.{_≡_, refl}
 use native.Mathlib.Omega.{arith}
 use lib.ListN.{length, length-set}
 use Rattle.day_runner.proofs.input.shift.Statement.{statement}

@@ -1,8 +1,8 @@
 -- `day_runner::records::next_of` is safe, and a record takes no more bytes than were lent.
-use Prim.Native.Nat.{_+_, _-_, _≤_}
-use mathlib.Core.Path.{_≡_, sym, _∙_}
+use Prim.Native.Nat.{_-_}
+use mathlib.Core.Path.{sym, _∙_}
 use native.Mathlib.Omega.{arith}
-use lib.ListN.{length, take, drop, length-take}
+use lib.ListN.{take, drop, length-take}
 use Rattle.dayfile.proofs.Files.{records-ends}
 use borrow.Author.Needs.{needs}
 use Rattle.day_runner.proofs.records.next_of.Statement.{statement}

@@ -1,5 +1,4 @@
 -- `day_runner::records::run` is safe: what is left to read stays within the input.
-use Prim.Native.Nat.{_≤_, _-_, _+_}
 use mathlib.Core.Path.{_≡_, refl, sym, subst, _∙_}
 use native.Mathlib.Omega.{arith}
 use borrow.Author.Needs.{needs}

@@ -1,19 +1,14 @@
 -- `unbounded::arrays::first_lender` meets its contract: no process that was passed lends.
-use Prim.Native.Nat.{ℕ, _≤_, _<_, _-_, _+_}
-use mathlib.Core.Path.{_≡_, refl, sym, ap, _∙_}
-use mathlib.Core.Bool.{Bool, true, false, cond}
-use mathlib.Core.List.{map}
+use Prim.Native.Nat.{ℕ, _≤_, _<_, _-_}
+use mathlib.Core.Path.{_≡_, sym, _∙_}
+use mathlib.Core.Bool.{false}
 use mathlib.Core.Logic.{⊎-elim}
 use borrow.Author.Needs.{needs}
 use borrow.Author.Count.{below-more, below-none}
 use native.Mathlib.Omega.{arith}
-use lib.ListN.{length, getD, set, replicate}
-use Rattle.snapshot.specs.Lists.{over, each, firstBelow}
-use Rattle.snapshot.proofs.Lists.{over-more, getD-map-below, first-below-is, getD-each}
-use Rattle.unbounded.specs.Registers.{noRegister, zeroRegister, ascending, laid, cleared, shown, differs, lends, isMoved, withMoved, value, collectedAt}
-use Rattle.unbounded.specs.Turns.{markFrom}
+use Rattle.snapshot.proofs.Lists.{first-below-is}
+use Rattle.unbounded.specs.Registers.{ascending, lends, isMoved}
 use Rattle.unbounded.proofs.Moved.{same-seqs, other-seqs, same-lends, other-lends}
-use Rattle.unbounded.proofs.Marks.{marks-more}
 use Rattle.unbounded.proofs.arrays.first_lender.Statement.{statement}
 use Rattle.unbounded.proofs.arrays.first_lender.Tie as tie
 use Rattle.unbounded.proofs.arrays.first_lender.Reads as reads

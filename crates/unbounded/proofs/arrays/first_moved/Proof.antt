@@ -1,19 +1,13 @@
 -- `unbounded::arrays::first_moved` meets its contract: no process that was passed differs.
-use Prim.Native.Nat.{ℕ, _≤_, _<_, _-_, _+_}
-use mathlib.Core.Path.{_≡_, refl, sym, ap, _∙_}
-use mathlib.Core.Bool.{Bool, true, false, cond}
-use mathlib.Core.List.{map}
-use mathlib.Core.Logic.{⊎-elim}
+use Prim.Native.Nat.{ℕ, _≤_, _<_, _-_}
+use mathlib.Core.Path.{_≡_, sym}
+use mathlib.Core.Bool.{false}
 use borrow.Author.Needs.{needs}
 use borrow.Author.Count.{below-more, below-none}
 use native.Mathlib.Omega.{arith}
-use lib.ListN.{length, getD, set, replicate}
-use Rattle.snapshot.specs.Lists.{over, each, firstBelow}
-use Rattle.snapshot.proofs.Lists.{over-more, getD-map-below, first-below-is, getD-each}
-use Rattle.unbounded.specs.Registers.{noRegister, zeroRegister, ascending, laid, cleared, shown, differs, lends, isMoved, withMoved, value, collectedAt}
-use Rattle.unbounded.specs.Turns.{markFrom}
-use Rattle.unbounded.proofs.Moved.{same-seqs, other-seqs, same-lends, other-lends}
-use Rattle.unbounded.proofs.Marks.{marks-more}
+use Rattle.snapshot.proofs.Lists.{first-below-is}
+use Rattle.unbounded.specs.Registers.{ascending, differs}
+use Rattle.unbounded.proofs.Moved.{same-seqs, other-seqs}
 use Rattle.unbounded.proofs.arrays.first_moved.Statement.{statement}
 use Rattle.unbounded.proofs.arrays.first_moved.Tie as tie
 use Rattle.unbounded.proofs.arrays.first_moved.Reads as reads

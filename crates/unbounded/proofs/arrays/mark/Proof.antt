@@ -1,18 +1,14 @@
 -- `unbounded::arrays::mark` meets its contract: the processes that were passed are marked as the search marks them.
-use Prim.Native.Nat.{ℕ, _≤_, _<_, _-_, _+_}
+use Prim.Native.Nat.{_≤_, _-_}
 use mathlib.Core.Path.{_≡_, refl, sym, ap, _∙_}
-use mathlib.Core.Bool.{Bool, true, false, cond}
-use mathlib.Core.List.{map}
+use mathlib.Core.Bool.{true, cond}
 use mathlib.Core.Logic.{⊎-elim}
 use borrow.Author.Needs.{needs}
-use borrow.Author.Count.{below-more, below-none}
 use native.Mathlib.Omega.{arith}
-use lib.ListN.{length, getD, set, replicate}
-use Rattle.snapshot.specs.Lists.{over, each, firstBelow}
-use Rattle.snapshot.proofs.Lists.{over-more, getD-map-below, first-below-is, getD-each}
-use Rattle.unbounded.specs.Registers.{noRegister, zeroRegister, ascending, laid, cleared, shown, differs, lends, isMoved, withMoved, value, collectedAt}
+use lib.ListN.{set}
+use Rattle.unbounded.specs.Registers.{ascending, differs, withMoved}
 use Rattle.unbounded.specs.Turns.{markFrom}
-use Rattle.unbounded.proofs.Moved.{same-seqs, other-seqs, same-lends, other-lends}
+use Rattle.unbounded.proofs.Moved.{same-seqs, other-seqs}
 use Rattle.unbounded.proofs.Marks.{marks-more}
 use Rattle.unbounded.proofs.arrays.mark.Statement.{statement}
 use Rattle.unbounded.proofs.arrays.mark.Tie as tie

@@ -1,5 +1,5 @@
 -- `unbounded::checks::first_check` meets its contract: each way out is the first cause that holds.
-use borrow.Author.Tests.{eq-eqb, ne-eqb, lt-ltb, le-ltb, le-leb, lt-leb}
+use borrow.Author.Tests.{eq-eqb, ne-eqb, lt-ltb, le-ltb}
 use borrow.Author.Needs.{needs}
 use Rattle.unbounded.proofs.checks.first_check.Statement.{statement}
 use Rattle.unbounded.proofs.checks.first_check.Tie as tie

@@ -1,5 +1,5 @@
 -- `unbounded::checks::last_check` meets its contract: each way out is the first cause that holds.
-use borrow.Author.Tests.{eq-eqb, ne-eqb, lt-ltb, le-ltb, le-leb, lt-leb}
+use borrow.Author.Tests.{eq-eqb, ne-eqb}
 use Rattle.unbounded.specs.Days.{isFull}
 use Rattle.unbounded.proofs.checks.last_check.Statement.{statement}
 use Rattle.unbounded.proofs.checks.last_check.Tie as tie

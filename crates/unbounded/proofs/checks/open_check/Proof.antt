@@ -1,5 +1,5 @@
 -- `unbounded::checks::open_check` meets its contract: each way out is the first cause that holds.
-use borrow.Author.Tests.{eq-eqb, ne-eqb, lt-ltb, le-ltb, le-leb, lt-leb}
+use borrow.Author.Tests.{eq-eqb, ne-eqb, lt-ltb, le-ltb}
 use Rattle.unbounded.proofs.checks.open_check.Statement.{statement}
 use Rattle.unbounded.proofs.checks.open_check.Tie as tie
 use Rattle.unbounded.proofs.checks.open_check.Reads as reads

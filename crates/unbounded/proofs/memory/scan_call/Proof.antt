@@ -1,7 +1,7 @@
 -- `unbounded::memory::scan_call` meets its contract.
 use mathlib.Core.Path.{sym, ap, _∙_}
 use Rattle.unbounded.specs.Memories.{lentBy, finished}
-use Rattle.unbounded.proofs.Memories.{scan-call-is}
+use Rattle.unbounded.proofs.Tables.{scan-call-is}
 use borrow.Author.Needs.{needs}
 use Rattle.unbounded.proofs.memory.scan_call.Statement.{statement}
 use Rattle.unbounded.proofs.memory.scan_call.Tie as tie

@@ -1,7 +1,7 @@
 -- `unbounded::memory::update_call` meets its contract.
 use mathlib.Core.Path.{sym, ap, _∙_}
 use Rattle.unbounded.specs.Memories.{lentBy, finished}
-use Rattle.unbounded.proofs.Memories.{update-call-is}
+use Rattle.unbounded.proofs.Tables.{update-call-is}
 use borrow.Author.Needs.{needs}
 use Rattle.unbounded.proofs.memory.update_call.Statement.{statement}
 use Rattle.unbounded.proofs.memory.update_call.Tie as tie

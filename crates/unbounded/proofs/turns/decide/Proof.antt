@@ -1,17 +1,10 @@
 -- `unbounded::turns::decide` meets its contract: each way out is a verdict.
-use Prim.Native.Nat.{_≤_, _<_, _+_}
-use mathlib.Core.Path.{_≡_, refl, sym, ap, _∙_}
-use mathlib.Core.Logic.{_≢_}
-use mathlib.Core.Bool.{true}
+use mathlib.Core.Path.{sym, ap, _∙_}
 use Rattle.snapshot.specs.Verdict.{lent}
 use native.Mathlib.Omega.{arith}
-use lib.ListN.{getD, replicate}
-use Rattle.snapshot.specs.Lists.{over, firstBelow}
-use Rattle.snapshot.proofs.Lists.{over-take}
 use Rattle.snapshot.proofs.DoubleCollect.{verdict-clean, verdict-lent, verdict-again}
-use Rattle.unbounded.specs.Registers.{noRegister, ascending, differs, lends}
+use Rattle.unbounded.specs.Registers.{ascending, differs, lends}
 use Rattle.unbounded.specs.Steps.{verdictFind}
-use Rattle.unbounded.specs.declared.turns.Find.{Find}
 use borrow.Author.Needs.{needs}
 use Rattle.unbounded.proofs.turns.decide.Statement.{statement}
 use Rattle.unbounded.proofs.turns.decide.Tie as tie

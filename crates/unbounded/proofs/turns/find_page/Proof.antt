@@ -1,9 +1,8 @@
 -- `unbounded::turns::find_page` meets its contract: a decision falls only at the end of a double collect.
-use Prim.Native.Nat.{_≤_, _<_, _+_, _*_}
-use mathlib.Core.Path.{_≡_, refl, sym, ap, ap₂, _∙_}
+use mathlib.Core.Path.{sym, ap, _∙_}
 use native.Mathlib.Omega.{arith}
 use Rattle.unbounded.specs.Registers.{ascending, differs, lends}
-use Rattle.unbounded.specs.Turns.{firstAfter, secondAfter, endAfter, decision}
+use Rattle.unbounded.specs.Turns.{firstAfter, secondAfter, endAfter}
 use Rattle.unbounded.specs.Steps.{decisionFind, verdictFind, findOf}
 use Rattle.snapshot.specs.Verdict.{verdict}
 use Rattle.unbounded.proofs.Reading.{first-waits, end-waits, decision-waits, decision-falls}

@@ -1,9 +1,9 @@
 -- `unbounded::turns::read_second` meets its contract.
-use mathlib.Core.Path.{_≡_, sym, ap, _∙_, subst}
+use mathlib.Core.Path.{_≡_, sym, ap, _∙_}
 use Prim.Native.Nat.{_+_, _-_}
 use native.Mathlib.Omega.{arith}
-use lib.ListN.{set, getD}
-use Rattle.unbounded.specs.Registers.{noRegister, laid, readInto}
+use lib.ListN.{set}
+use Rattle.unbounded.specs.Registers.{readInto}
 use Rattle.unbounded.specs.Turns.{secondAfter}
 use Rattle.unbounded.proofs.Reading.{second-reads, second-waits}
 use borrow.Author.Needs.{needs}

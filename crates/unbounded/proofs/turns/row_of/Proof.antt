@@ -1,10 +1,10 @@
--- `unbounded::memory::row_of` meets its contract.
+-- `unbounded::turns::row_of` meets its contract.
 use borrow.Author.Tests.{lt-ltb, le-ltb}
 use Rattle.unbounded.specs.Turns.{placeAt}
-use Rattle.unbounded.proofs.memory.row_of.Statement.{statement}
-use Rattle.unbounded.proofs.memory.row_of.Tie as tie
-use Rattle.unbounded.proofs.memory.row_of.Reads as reads
-use Rattle.unbounded.proofs.memory.row_of.Lts as lts
+use Rattle.unbounded.proofs.turns.row_of.Statement.{statement}
+use Rattle.unbounded.proofs.turns.row_of.Tie as tie
+use Rattle.unbounded.proofs.turns.row_of.Reads as reads
+use Rattle.unbounded.proofs.turns.row_of.Lts as lts
 
 -- src/memory.rt:181:1
 returns : tie.Need-returns

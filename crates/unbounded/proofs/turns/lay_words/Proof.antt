@@ -1,16 +1,16 @@
--- `unbounded::memory::lay_words` meets its contract: the words that were passed are laid over the list.
-use Prim.Native.Nat.{_≤_, _-_, _+_}
-use mathlib.Core.Path.{_≡_, refl, sym, ap, _∙_}
+-- `unbounded::turns::lay_words` meets its contract: the words that were passed are laid over the list.
+use Prim.Native.Nat.{_≤_, _-_}
+use mathlib.Core.Path.{_≡_, refl, ap, _∙_}
 use native.Mathlib.Omega.{arith}
 use borrow.Author.Needs.{needs}
 use denote.Ref.{now}
 use lib.ListN.{length, getD, set, length-set}
 use Rattle.snapshot.specs.Lists.{over}
 use Rattle.snapshot.proofs.Lists.{over-more}
-use Rattle.unbounded.proofs.memory.lay_words.Statement.{statement}
-use Rattle.unbounded.proofs.memory.lay_words.Tie as tie
-use Rattle.unbounded.proofs.memory.lay_words.Reads as reads
-use Rattle.unbounded.proofs.memory.lay_words.Lts as lts
+use Rattle.unbounded.proofs.turns.lay_words.Statement.{statement}
+use Rattle.unbounded.proofs.turns.lay_words.Tie as tie
+use Rattle.unbounded.proofs.turns.lay_words.Reads as reads
+use Rattle.unbounded.proofs.turns.lay_words.Lts as lts
 
 abbrev Inv-loop : tie.InvT-loop
 Inv-loop n page₀ words j₀ page j = (j ≤ n) × (page ≡ over j words page₀) × (length page ≡ length page₀)

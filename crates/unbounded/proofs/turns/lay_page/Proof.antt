@@ -1,12 +1,12 @@
--- `unbounded::memory::lay_page` meets its contract: only a scan that found a page lays words.
+-- `unbounded::turns::lay_page` meets its contract: only a scan that found a page lays words.
 use mathlib.Core.Path.{sym, ap, _∙_}
 use Rattle.unbounded.specs.Steps.{layIf, pageBy}
 use borrow.Author.Needs.{needs}
-use Rattle.unbounded.proofs.memory.lay_page.Statement.{statement}
-use Rattle.unbounded.proofs.memory.lay_page.Tie as tie
-use Rattle.unbounded.proofs.memory.lay_page.Reads as reads
-use Rattle.unbounded.proofs.memory.lay_page.Lts as lts
-use Rattle.unbounded.proofs.memory.lay_words.Reads as lay-words-reads
+use Rattle.unbounded.proofs.turns.lay_page.Statement.{statement}
+use Rattle.unbounded.proofs.turns.lay_page.Tie as tie
+use Rattle.unbounded.proofs.turns.lay_page.Reads as reads
+use Rattle.unbounded.proofs.turns.lay_page.Lts as lts
+use Rattle.unbounded.proofs.turns.lay_words.Reads as lay-words-reads
 
 -- src/memory.rt:113:16
 enum-told : tie.Need-enum-told

@@ -1,15 +1,14 @@
--- `unbounded::memory::place_of` meets its contract: a remainder by 2n is below 2n.
+-- `unbounded::turns::place_of` meets its contract: a remainder by 2n is below 2n.
 use mathlib.Core.Path.{sym, ap, _∙_, subst}
 use Prim.Native.Nat.{_<_, _*_}
 use native.Mathlib.Omega.{arith}
-use Rattle.unbounded.specs.Turns.{position}
 use Rattle.unbounded.specs.Steps.{placeOf}
 use Rattle.unbounded.proofs.Reading.{position-low}
 use borrow.Author.Needs.{needs}
-use Rattle.unbounded.proofs.memory.place_of.Statement.{statement}
-use Rattle.unbounded.proofs.memory.place_of.Tie as tie
-use Rattle.unbounded.proofs.memory.place_of.Reads as reads
-use Rattle.unbounded.proofs.memory.place_of.Lts as lts
+use Rattle.unbounded.proofs.turns.place_of.Statement.{statement}
+use Rattle.unbounded.proofs.turns.place_of.Tie as tie
+use Rattle.unbounded.proofs.turns.place_of.Reads as reads
+use Rattle.unbounded.proofs.turns.place_of.Lts as lts
 use Rattle.unbounded.proofs.turns.position_of.Reads as position-of-reads
 
 -- src/memory.rt:82:23

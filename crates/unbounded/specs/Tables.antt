@@ -1,0 +1,58 @@
+-- What the functions over a lent table of records answer: the day and the answer; the table and the page list are left as lent.
+use Prim.Native.Nat.{ℕ, _+_}
+use mathlib.Core.Bool.{Bool, true, false}
+use mathlib.Core.List.{List, []}
+use mathlib.Core.Option.{Option, none, some}
+use lib.ListN.{getD}
+use Rattle.snapshot.specs.Demand.{Result}
+use Rattle.snapshot.specs.declared.Refusal.{Refusal}
+use Rattle.snapshot.specs.declared.Answer.{Answer}
+use Rattle.snapshot.specs.declared.Answer.the-variants.{Read, Refused, Opened, Called}
+use Rattle.unbounded.specs.declared.Day.{Day}
+use Rattle.unbounded.specs.declared.Process.{Process}
+use Rattle.unbounded.specs.declared.Outcome.{Outcome}
+use Rattle.unbounded.specs.declared.Register.{Register}
+use Rattle.unbounded.specs.declared.Task.{Task}
+use Rattle.unbounded.specs.declared.turns.Find.{Find}
+use Rattle.unbounded.specs.Processes.{noProcess}
+use Rattle.unbounded.specs.Turns.{placeAt}
+use Rattle.unbounded.specs.Steps.{findOf, placeOf}
+use Rattle.unbounded.specs.Days.{State, calledBy}
+
+-- the state that a day and a lent table are
+abbrev pub stateOf : Day → List Process → State
+stateOf d ps = record { day = d; table = ps }
+
+-- the day and the answer of a result
+abbrev pub outcomeOf : Result State → Outcome
+outcomeOf r = record { day = r .state .day; answer = r .answer }
+
+abbrev pub isRefusal : Option Refusal → Bool
+isRefusal none = false
+isRefusal (some k) = true
+
+abbrev pub refusedOutcome : Day → Option Refusal → Outcome
+refusedOutcome d none = record { day = d; answer = Read }
+refusedOutcome d (some k) = record { day = d; answer = Refused k }
+
+abbrev pub acceptedOutcome : Day → Answer → Outcome
+acceptedOutcome d a = record { day = record { count = d .count; event = d .event + 1 }; answer = a }
+
+abbrev pub openedOutcome : ℕ → Outcome
+openedOutcome k = record { day = record { count = k; event = 0 }; answer = Opened }
+
+-- the register that a task k reads next, and what record i finds by it
+abbrev pub registerIn : Day → List Process → Task → Register
+registerIn d ps k = getD ps (placeAt (d .count) (placeOf (d .count) k)) noProcess .register
+
+abbrev pub foundIn : Day → List Process → ℕ → Task → Find
+foundIn d ps i k = findOf (d .count) (d .event + 1) (placeOf (d .count) k) (registerIn d ps k) (getD ps i noProcess)
+
+-- an accepted call of process d that asks for task k
+abbrev pub calledWith : State → ℕ → Task → Result State
+calledWith s d k = record { state = calledBy s d k; answer = Called; page = [] }
+
+-- the same, or a refusal
+abbrev pub calledOr : State → ℕ → Task → Option Refusal → Result State
+calledOr s d k none = calledWith s d k
+calledOr s d k (some r) = record { state = s; answer = Refused r; page = [] }
