@@ -17,6 +17,6 @@ pub mod Demand3
 pub mod MarkedDays
 pub mod Figure3
 pub mod Steps
-pub mod Memories
 pub mod Tables
+pub mod Memories
 pub mod LocalTable

@@ -25,9 +25,8 @@ use denote.RattleType.{RattleType}
 use denote.Laws.{Is, shows}
 use denote.Memory.{mem}
 use denote.Ref.{RefT}
-use denote.Slice.{Room, MutSlice, sliceVal, finally, heres, codedHoleys, at-slice}
+use denote.Slice.{Room, MutSlice, sliceVal, finally, heres, codedHoleys}
 use denote.Lend.{Held, lends-slice, slice-back}
-use denote.Shadow.{pureI}
 use denote.Index.{row, whole-out, whole-in}
 use denote.Steps.{only, heard, facts, nothing}
 use denote.Triple.Statement.{Contract, Triple}
@@ -76,13 +75,6 @@ module _ {M : Type 1} {𝓤 : URA M} {H : Heap 𝓤} {A : Atoms 𝓤} {K : Type 
       → Step K W (‵ (fobs γ (codedHoleys T .code (heres T ys))) ∷ ‵ (fbor κ (Held T (length ys) b o γ)) ∷ Γ) G
       (‵ (MutSlice (named 0) κ T .own (record { ptr = (b, o); name = γ; now = ys }) (sliceVal (b, o) (length ys) ∷ [])) ∷ Γ) G
   taken t T b o γ ys = step (λ s. fsplit t $ drop t $ fsplit t $ s)
-
-  -- and at exit, where the elements are zs: the reference is still owned
-  pub kept : K → (T : RattleType) {κ : Lft} (b o : ℕ) (γ : GName) (ys zs : List (T .Denot)) → Room T (length ys) → length zs ≡ length ys → {G : Goal 𝓤 H}
-      → Step K W (‵ (MutSlice (named 0) κ T .own (record { ptr = (b, o); name = γ; now = zs }) (sliceVal (b, o) (length ys) ∷ [])) ∷ Γ) G
-      (‵ (fobs γ (codedHoleys T .code (heres T zs))) ∷ ‵ (fbor κ (Held T (length zs) b o γ)) ∷ Γ) G
-  kept t T b o γ ys zs room e = step (λ s. fjoin t $
-      pureI t (at-slice T (record { ptr = (b, o); name = γ; now = zs }) (sliceVal (b, o) (length ys) ∷ [])) (tt, (tt, tt)) (ap (λ (m : ℕ). sliceVal (b, o) m ∷ []) (sym e), subst (Room T) (sym e) room) $ fjoin t $ s)
 
   -- a row is lent as a `&mut [T]`, and comes back at the last list
   lends : K → {G : Goal 𝓤 H} → Soaks G → (T : RattleType) (b o : ℕ) (ys : List (T .Denot)) → Room T (length ys)

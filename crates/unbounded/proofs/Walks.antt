@@ -157,12 +157,12 @@ module _ {M : Type 1} {𝓤 : URA M} {H : Heap 𝓤} {A : Atoms 𝓤} {K : Type 
       ((‵ (flft κ q) ⊛ ‵ ftrue) ∷ ‵ (fsep (MutSlice (named 0) κ Row .own (record { ptr = (b, o); name = γ; now = ys }) (sliceVal (b, o) (length ys) ∷ [])) Q) ∷ Γ) G
   lent t b o γ ys = step (λ s. split t $ move t (2 ∷ []) $ fsplit t $ fsplit t $ drop t $ fsplit t $ move t (2 ∷ []) $ drop t $ move t (3 ∷ []) $ drop t $ s)
 
-  -- and at exit, where the records are zs: the reference is still owned
-  pub held : K → {κ : Lft} (b o : ℕ) (γ : GName) (ys zs : List Process) → Room Row (length ys) → length zs ≡ length ys → {G : Goal 𝓤 H}
-      → Step K W (‵ (MutSlice (named 0) κ Row .own (record { ptr = (b, o); name = γ; now = zs }) (sliceVal (b, o) (length ys) ∷ [])) ∷ Γ) G
-      (‵ (fobs γ (codedHoleys Row .code (heres Row zs))) ∷ ‵ (fbor κ (Held Row (length zs) b o γ)) ∷ Γ) G
-  held t b o γ ys zs room e = step (λ s. fjoin t $
-      pureI t (at-slice Row (record { ptr = (b, o); name = γ; now = zs }) (sliceVal (b, o) (length ys) ∷ [])) (tt, (tt, tt)) (ap (λ (m : ℕ). sliceVal (b, o) m ∷ []) (sym e), subst (Room Row) (sym e) room) $ fjoin t $ s)
+  -- and at exit, where the elements are zs: the reference is still owned
+  pub held : K → (T : RattleType) {κ : Lft} (b o : ℕ) (γ : GName) (ys zs : List (T .Denot)) → Room T (length ys) → length zs ≡ length ys → {G : Goal 𝓤 H}
+      → Step K W (‵ (MutSlice (named 0) κ T .own (record { ptr = (b, o); name = γ; now = zs }) (sliceVal (b, o) (length ys) ∷ [])) ∷ Γ) G
+      (‵ (fobs γ (codedHoleys T .code (heres T zs))) ∷ ‵ (fbor κ (Held T (length zs) b o γ)) ∷ Γ) G
+  held t T b o γ ys zs room e = step (λ s. fjoin t $
+      pureI t (at-slice T (record { ptr = (b, o); name = γ; now = zs }) (sliceVal (b, o) (length ys) ∷ [])) (tt, (tt, tt)) (ap (λ (m : ℕ). sliceVal (b, o) m ∷ []) (sym e), subst (Room T) (sym e) room) $ fjoin t $ s)
 
   -- the same of a `&mut Process`, at entry and at exit
   pub lent-one : K → {κ : Lft} {q : Share} (b o : ℕ) (γ : GName) (p : Process) {Q : Fml} {G : Goal 𝓤 H}

@@ -6,5 +6,5 @@ pub mod Days
 pub mod MarkedDays
 pub mod Figure3
 pub mod Steps
-pub mod Memories
 pub mod Tables
+pub mod Memories

@@ -1,4 +1,5 @@
--- What the functions over a lent table of records answer: the day and the answer; the table and the page list are left as lent.
+-- What the functions over a lent table of records answer: the day and the answer of a result. What a result leaves in the table and
+-- in the page list is left in the lent ones.
 use Prim.Native.Nat.{ℕ, _+_}
 use mathlib.Core.Bool.{Bool, true, false}
 use mathlib.Core.List.{List, []}
@@ -27,17 +28,21 @@ stateOf d ps = record { day = d; table = ps }
 abbrev pub outcomeOf : Result State → Outcome
 outcomeOf r = record { day = r .state .day; answer = r .answer }
 
+-- whether a check refused
 abbrev pub isRefusal : Option Refusal → Bool
 isRefusal none = false
 isRefusal (some k) = true
 
+-- a refusal: the day stays (none is refused here without a cause)
 abbrev pub refusedOutcome : Day → Option Refusal → Outcome
 refusedOutcome d none = record { day = d; answer = Read }
 refusedOutcome d (some k) = record { day = d; answer = Refused k }
 
+-- "Every accepted call or turn adds 1 to the event number"
 abbrev pub acceptedOutcome : Day → Answer → Outcome
 acceptedOutcome d a = record { day = record { count = d .count; event = d .event + 1 }; answer = a }
 
+-- "Opening sets the desk count to the number asked, and the event number .. to 0"
 abbrev pub openedOutcome : ℕ → Outcome
 openedOutcome k = record { day = record { count = k; event = 0 }; answer = Opened }
 

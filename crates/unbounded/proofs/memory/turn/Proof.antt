@@ -47,9 +47,9 @@ use Rattle.unbounded.specs.declared.Outcome.{Outcome}
 use Rattle.unbounded.specs.Days.{State, turnOf, stepped}
 use Rattle.unbounded.specs.Tables.{stateOf, outcomeOf}
 use Rattle.unbounded.specs.Memories.{sizeOf, finished, withTable}
-use Rattle.unbounded.proofs.Walks.{Row, also, a-u32, a-usize}
+use Rattle.unbounded.proofs.Walks.{held, Row, also, a-u32, a-usize}
 use Rattle.unbounded.proofs.PassedOn.{a-day, an-outcome}
-use Rattle.unbounded.proofs.Passing.{lent-of, two-facts, says-all, taken, kept, calls-is, calls-lent-two}
+use Rattle.unbounded.proofs.Passing.{lent-of, two-facts, says-all, taken, calls-is, calls-lent-two}
 use Rattle.unbounded.proofs.LocalTable.{a-table, a-memory, a-stepped, day-of, table-of, count-fits, size-fits, lent-long, lent-room, whole-long, table-out, table-back}
 use Rattle.unbounded.proofs.Memories.{lent-state, taken-back}
 use Rattle.unbounded.proofs.memory.size_of as g₁
@@ -164,7 +164,7 @@ module _ {M : Type 1} (𝓤 : URA M) (H : Heap 𝓤) (A : Atoms 𝓤) (W : Given
       qed W (‵ (fobs γ (codedHoleys u32 .code (heres u32 us′))) ∷ ‵ (fbor κ (Held u32 (length us′) b o γ)) ∷ ‵ (flft κ q) ∷ []) ∵
       suffices ! _ (ends-at 𝓤 H A f.ended stayed (f.clauses 𝓤 H A mem run) W bound (a-stepped .val x′) x′ (tt, (tt, (us′, tt))) (tt, (tt, (l′, tt)))) $
       says-all ! (two-facts 𝓤 H A W (taken-back c m R (l ∙ lent-long m m-is c) ∙ ap (λ s. finished c m (after s)) (lent-state c m)) (ap (λ s. after s .page) (lent-state c m))) $
-      kept ! u32 b o γ ps us′ room l′ $ nothing ! $ move ! (1 ∷ 0 ∷ []) $ fjoin ! $ nothing ! $ fjoin ! $ nothing ! $ fjoin ! $ nothing ! $ move ! (2 ∷ 0 ∷ []) $ join ! $ frame ! $ frame ! $
+      held ! u32 b o γ ps us′ room l′ $ nothing ! $ move ! (1 ∷ 0 ∷ []) $ fjoin ! $ nothing ! $ fjoin ! $ nothing ! $ fjoin ! $ nothing ! $ move ! (2 ∷ 0 ∷ []) $ join ! $ frame ! $ frame ! $
       owned ! (a-stepped .row) (Is (a-stepped .row)) (a-stepped .made 𝓤 H A W) x′ (a-stepped .val x′ ∷ []) is $ done !
 
   module _ (C : Calls 𝓤 H) (Λ : Loops 𝓤 H) (fm : FmC 𝓤 H (W .laws) C) (known : Knows 𝓤 H A mem run C) where

@@ -94,7 +94,7 @@ module _ {M : Type 1} (𝓤 : URA M) (H : Heap 𝓤) (A : Atoms 𝓤) (W : Given
   exits y e =
       qed W (‵ (fobs γ (codedHoleys Row .code (heres Row (set ys i y)))) ∷ ‵ (fbor κ (Held Row (length (set ys i y)) b o γ)) ∷ ‵ (flft κ q) ∷ []) ∵
       suffices ! _ (ends-at 𝓤 H A f.ended stayed (f.clauses 𝓤 H A mem run) W bound vunit tt (set ys i y, (tt, (tt, (tt, tt)))) (length-set ys i y, (tt, (tt, (tt, tt))))) $ says ! (ap (set ys i) e) $
-      held ! b o γ ys (set ys i y) room (length-set ys i y) $ dropped ! 3 $ move ! (1 ∷ 0 ∷ []) $ fjoin ! $ nothing ! $ move ! (2 ∷ 0 ∷ []) $ join ! $ frame ! $ frame ! $ feqI ! (List Val) (vunit ∷ []) (vunit ∷ []) refl $ done !
+      held ! Row b o γ ys (set ys i y) room (length-set ys i y) $ dropped ! 3 $ move ! (1 ∷ 0 ∷ []) $ fjoin ! $ nothing ! $ move ! (2 ∷ 0 ∷ []) $ join ! $ frame ! $ frame ! $ feqI ! (List Val) (vunit ∷ []) (vunit ∷ []) refl $ done !
 
   module _ (C : Calls 𝓤 H) (Λ : Loops 𝓤 H) (fm : FmC 𝓤 H (W .laws) C) (known : Triple 𝓤 (C #g) (G 𝓤 H A mem run)) where
     walk : (i < length ys) × (n ≤ 8) → ent 𝓤 (onEntry 𝓤 H A f.signature (κ, tt) (q, tt) x at) (WpFn 𝓤 H C Λ code.function (sliceVal (b, o) (length ys) ∷ vint w64 i ∷ vint w64 n ∷ a-task .val k ∷ []) Post)

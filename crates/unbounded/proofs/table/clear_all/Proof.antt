@@ -117,7 +117,7 @@ module _ {M : Type 1} (𝓤 : URA M) (H : Heap 𝓤) (A : Atoms 𝓤) (W : Given
   exits =
       qed W (‵ (fobs γ (codedHoleys Row .code (heres Row zs))) ∷ ‵ (fbor κ (Held Row (length zs) b o γ)) ∷ ‵ (flft κ q) ∷ []) ∵
       suffices ! _ (ends-at 𝓤 H A f.ended stayed (f.clauses 𝓤 H A mem run) W bound vunit tt (zs, tt) (length-map ys (λ p. zeroProcess), tt)) $ says ! refl $
-      held ! b o γ ys zs room (length-map ys (λ p. zeroProcess)) $ dropped ! 0 $ move ! (1 ∷ 0 ∷ []) $ fjoin ! $ nothing ! $ move ! (2 ∷ 0 ∷ []) $ join ! $ frame ! $ frame ! $ feqI ! (List Val) (vunit ∷ []) (vunit ∷ []) refl $ done !
+      held ! Row b o γ ys zs room (length-map ys (λ p. zeroProcess)) $ dropped ! 0 $ move ! (1 ∷ 0 ∷ []) $ fjoin ! $ nothing ! $ move ! (2 ∷ 0 ∷ []) $ join ! $ frame ! $ frame ! $ feqI ! (List Val) (vunit ∷ []) (vunit ∷ []) refl $ done !
 
   module _ (𝓣 : Tables 𝓤 H) (known : Triple 𝓤 (𝓣 .C #g) (G 𝓤 H A mem run)) (l₀ l₁ l₂ l₃ l₄ l₅ l₆ : ℕ) where
     abbrev slice : Ty

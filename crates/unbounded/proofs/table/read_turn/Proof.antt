@@ -54,10 +54,10 @@ use Rattle.unbounded.specs.Steps.{stateBy, answerBy, pageBy, placeOf}
 use Rattle.unbounded.specs.Tables.{acceptedOutcome, registerIn, foundIn}
 use Rattle.unbounded.proofs.Reading.{position-low, place-below}
 use Rattle.unbounded.proofs.Steps.{find-passed}
-use Rattle.unbounded.proofs.Walks.{Row, also, a-usize, a-u32, a-task, a-register, a-find, a-unit}
+use Rattle.unbounded.proofs.Walks.{held, Row, also, a-usize, a-u32, a-task, a-register, a-find, a-unit}
 use Rattle.unbounded.proofs.Loans.{shared-at}
 use Rattle.unbounded.proofs.PassedOn.{a-day, an-outcome, an-answer}
-use Rattle.unbounded.proofs.Passing.{lent-of, three-facts, says-all, taken, kept, calls-is, calls-shared-is, calls-lent-one, Turn-at, calls-turn-at}
+use Rattle.unbounded.proofs.Passing.{lent-of, three-facts, says-all, taken, calls-is, calls-shared-is, calls-lent-one, Turn-at, calls-turn-at}
 use Rattle.unbounded.proofs.checks.count_of as g₁
 use Rattle.unbounded.proofs.checks.count_of.Symbol as g₁-def
 use Rattle.unbounded.proofs.checks.count_of.Met as g₁-thm
@@ -249,7 +249,7 @@ module _ {M : Type 1} (𝓤 : URA M) (H : Heap 𝓤) (A : Atoms 𝓤) (W : Given
       qed W (‵ (fobs γ′ (codedHoleys u32 .code (heres u32 us′))) ∷ ‵ (fbor κ′ (Held u32 (length us′) b′ o′ γ′)) ∷ ‵ (flft κ′ q′) ∷ ‵ (fobs γ (codedHoleys Row .code (heres Row us))) ∷ ‵ (fbor κ (Held Row (length us) b o γ)) ∷ ‵ (flft κ q) ∷ []) ∵
       suffices ! _ (ends-at 𝓤 H A f.ended stayed (f.clauses 𝓤 H A mem run) W bound (an-outcome .val x′) x′ (tt, (us, (tt, (tt, (us′, tt))))) (tt, (l, (tt, (tt, (l′, tt)))))) $ says-all ! (three-facts 𝓤 H A W refl refl refl) $
       -- [the page list's reference and token; the table's]
-      kept ! u32 b′ o′ γ′ ps us′ room′ l′ $ nothing ! $ move ! (1 ∷ 0 ∷ []) $ fjoin ! $ nothing ! $ fjoin ! $ nothing ! $ fjoin ! $ move ! (2 ∷ 3 ∷ []) $ kept ! Row b o γ ys us room l $ move ! (0 ∷ 1 ∷ []) $ fjoin ! $ nothing ! $ fjoin ! $
+      held ! u32 b′ o′ γ′ ps us′ room′ l′ $ nothing ! $ move ! (1 ∷ 0 ∷ []) $ fjoin ! $ nothing ! $ fjoin ! $ nothing ! $ fjoin ! $ move ! (2 ∷ 3 ∷ []) $ held ! Row b o γ ys us room l $ move ! (0 ∷ 1 ∷ []) $ fjoin ! $ nothing ! $ fjoin ! $
       nothing ! $ move ! (2 ∷ 0 ∷ []) $ join ! $ move ! (2 ∷ 0 ∷ []) $ join ! $ frame ! $ frame ! $ owned ! (an-outcome .row) (Is (an-outcome .row)) (an-outcome .made 𝓤 H A W) x′ (an-outcome .val x′ ∷ []) is $ done !
 
   module _ (C : Calls 𝓤 H) (Λ : Loops 𝓤 H) (fm : FmC 𝓤 H (W .laws) C) (known : Knows 𝓤 H A mem run C) where

@@ -143,7 +143,7 @@ module _ {M : Type 1} (𝓤 : URA M) (H : Heap 𝓤) (A : Atoms 𝓤) (W : Given
   exits r zs e₁ e₂ l is =
       qed W (‵ (fobs γ (codedHoleys Row .code (heres Row zs))) ∷ ‵ (fbor κ (Held Row (length zs) b o γ)) ∷ ‵ (flft κ q) ∷ []) ∵
       suffices ! _ (ends-at 𝓤 H A f.ended stayed (f.clauses 𝓤 H A mem run) W bound (an-outcome .val r) r (tt, (zs, (tt, tt))) (tt, (l, (tt, tt)))) $ says-both ! e₁ e₂ $
-      held ! b o γ ys zs room l $ dropped ! 1 $ move ! (1 ∷ 0 ∷ []) $ fjoin ! $ nothing ! $ fjoin ! $ nothing ! $ move ! (2 ∷ 0 ∷ []) $ join ! $ frame ! $ frame ! $
+      held ! Row b o γ ys zs room l $ dropped ! 1 $ move ! (1 ∷ 0 ∷ []) $ fjoin ! $ nothing ! $ fjoin ! $ nothing ! $ move ! (2 ∷ 0 ∷ []) $ join ! $ frame ! $ frame ! $
       owned ! (an-outcome .row) (Is (an-outcome .row)) (an-outcome .made 𝓤 H A W) r (an-outcome .val r ∷ []) is $ done !
 
   module _ (C : Calls 𝓤 H) (Λ : Loops 𝓤 H) (fm : FmC 𝓤 H (W .laws) C)

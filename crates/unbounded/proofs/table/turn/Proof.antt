@@ -51,10 +51,10 @@ use Rattle.unbounded.specs.Days.{turnOf, refusal, accept, stepped, itemC
 use Rattle.unbounded.specs.Steps.{asOption}
 use Rattle.unbounded.specs.Tables.{stateOf, outcomeOf, isRefusal, refusedOutcome}
 use Rattle.unbounded.proofs.Tables.{stepped-refused, stepped-accepted}
-use Rattle.unbounded.proofs.Walks.{Row, also, a-usize, a-u32, a-bool}
+use Rattle.unbounded.proofs.Walks.{held, Row, also, a-usize, a-u32, a-bool}
 use Rattle.unbounded.proofs.Loans.{shared-at}
 use Rattle.unbounded.proofs.PassedOn.{a-day, an-outcome, a-check, passed-none, leaves-if}
-use Rattle.unbounded.proofs.Passing.{lent-of, three-facts, says-all, taken, kept, calls-is, calls-shared-is, calls-lent-two}
+use Rattle.unbounded.proofs.Passing.{lent-of, three-facts, says-all, taken, calls-is, calls-shared-is, calls-lent-two}
 use Rattle.snapshot.specs.declared.Refusal.{Refusal}
 use Rattle.unbounded.specs.declared.checks.Check.the-variants.{Passed, Refused}
 use Rattle.unbounded.proofs.checks.is_short as g₁
@@ -233,7 +233,7 @@ module _ {M : Type 1} (𝓤 : URA M) (H : Heap 𝓤) (A : Atoms 𝓤) (W : Given
       qed W (‵ (fobs γ′ (codedHoleys u32 .code (heres u32 ws))) ∷ ‵ (fbor κ′ (Held u32 (length ws) b′ o′ γ′)) ∷ ‵ (flft κ′ q′) ∷ ‵ (fobs γ (codedHoleys Row .code (heres Row zs))) ∷ ‵ (fbor κ (Held Row (length zs) b o γ)) ∷ ‵ (flft κ q) ∷ []) ∵
       suffices ! _ (ends-at 𝓤 H A f.ended stayed (f.clauses 𝓤 H A mem run) W bound (an-outcome .val x′) x′ (tt, (zs, (tt, (ws, tt)))) (tt, (l, (tt, (l′, tt))))) $ says-all ! (three-facts 𝓤 H A W (h .0) (h .1) (h .2)) $
       -- [the page list's reference and token; the table's]
-      kept ! u32 b′ o′ γ′ ps ws room′ l′ $ nothing ! $ move ! (1 ∷ 0 ∷ []) $ fjoin ! $ nothing ! $ fjoin ! $ move ! (2 ∷ 3 ∷ []) $ kept ! Row b o γ ys zs room l $ move ! (0 ∷ 1 ∷ []) $ fjoin ! $ nothing ! $ fjoin ! $
+      held ! u32 b′ o′ γ′ ps ws room′ l′ $ nothing ! $ move ! (1 ∷ 0 ∷ []) $ fjoin ! $ nothing ! $ fjoin ! $ move ! (2 ∷ 3 ∷ []) $ held ! Row b o γ ys zs room l $ move ! (0 ∷ 1 ∷ []) $ fjoin ! $ nothing ! $ fjoin ! $
       nothing ! $ move ! (2 ∷ 0 ∷ []) $ join ! $ move ! (2 ∷ 0 ∷ []) $ join ! $ frame ! $ frame ! $ owned ! (an-outcome .row) (Is (an-outcome .row)) (an-outcome .made 𝓤 H A W) x′ (an-outcome .val x′ ∷ []) is $ done !
 
   module _ (C : Calls 𝓤 H) (Λ : Loops 𝓤 H) (fm : FmC 𝓤 H (W .laws) C) (known : Knows 𝓤 H A mem run C) where

@@ -47,9 +47,9 @@ use Rattle.unbounded.specs.Processes.{noProcess}
 use Rattle.unbounded.specs.Registers.{zeroRegister}
 use Rattle.unbounded.specs.Steps.{nothingFound, stateBy, answerBy}
 use Rattle.unbounded.specs.Tables.{acceptedOutcome}
-use Rattle.unbounded.proofs.Walks.{Row, Lent, dropped, also, a-usize, a-u32, a-task, a-register, a-find, a-unit}
+use Rattle.unbounded.proofs.Walks.{held, Row, Lent, dropped, also, a-usize, a-u32, a-task, a-register, a-find, a-unit}
 use Rattle.unbounded.proofs.PassedOn.{a-day, an-outcome, an-answer}
-use Rattle.unbounded.proofs.Passing.{two-facts, says-all, taken, kept, calls-is, Turn-at, calls-turn-at}
+use Rattle.unbounded.proofs.Passing.{two-facts, says-all, taken, calls-is, Turn-at, calls-turn-at}
 use Rattle.unbounded.proofs.checks.count_of as g₁
 use Rattle.unbounded.proofs.checks.count_of.Symbol as g₁-def
 use Rattle.unbounded.proofs.checks.count_of.Met as g₁-thm
@@ -134,7 +134,7 @@ module _ {M : Type 1} (𝓤 : URA M) (H : Heap 𝓤) (A : Atoms 𝓤) (W : Given
   exits l is =
       qed W (‵ (fobs γ (codedHoleys Row .code (heres Row us))) ∷ ‵ (fbor κ (Held Row (length us) b o γ)) ∷ ‵ (flft κ q) ∷ []) ∵
       suffices ! _ (ends-at 𝓤 H A f.ended stayed (f.clauses 𝓤 H A mem run) W bound (an-outcome .val x′) x′ (tt, (us, (tt, (tt, tt)))) (tt, (l, (tt, (tt, tt))))) $ says-all ! (two-facts 𝓤 H A W refl refl) $
-      kept ! Row b o γ ys us room l $ dropped ! 2 $ move ! (1 ∷ 0 ∷ []) $ fjoin ! $ nothing ! $ fjoin ! $ nothing ! $ move ! (2 ∷ 0 ∷ []) $ join ! $ frame ! $ frame ! $ owned ! (an-outcome .row) (Is (an-outcome .row)) (an-outcome .made 𝓤 H A W) x′ (an-outcome .val x′ ∷ []) is $ done !
+      held ! Row b o γ ys us room l $ dropped ! 2 $ move ! (1 ∷ 0 ∷ []) $ fjoin ! $ nothing ! $ fjoin ! $ nothing ! $ move ! (2 ∷ 0 ∷ []) $ join ! $ frame ! $ frame ! $ owned ! (an-outcome .row) (Is (an-outcome .row)) (an-outcome .made 𝓤 H A W) x′ (an-outcome .val x′ ∷ []) is $ done !
 
   module _ (C : Calls 𝓤 H) (Λ : Loops 𝓤 H) (fm : FmC 𝓤 H (W .laws) C) (known : Knows 𝓤 H A mem run C) where
     walk : Asked day ys i k → ent 𝓤 (onEntry 𝓤 H A f.signature (κ, tt) (q, tt) x at) (WpFn 𝓤 H C Λ code.function (a-day .val day ∷ sliceVal (b, o) (length ys) ∷ vint w64 i ∷ a-task .val k ∷ []) Post)
