@@ -2,7 +2,7 @@
 use Prim.Native.Nat.{ℕ, _+_, _≤_}
 use mathlib.Core.Path.{_≡_}
 use Rattle.day_runner.specs.declared.input.Input.{Input}
-use Rattle.dayfile.specs.declared.Record.{Record}
+use Rattle.snapshot.specs.declared.Request.{Request}
 use Rattle.dayfile.specs.declared.Reading.{Reading}
 use Rattle.dayfile.specs.declared.Reading.the-variants.{Found}
 
@@ -13,4 +13,4 @@ pub record Within (i : Input) (n : ℕ) : Type 0 where
 
 -- a record that was found ends within the input
 abbrev pub Ends : Reading → Input → Type 0
-Ends x i = (r : Record) (k : ℕ) → x ≡ Found r k → i .at + k ≤ i .end
+Ends x i = (r : Request) (k : ℕ) → x ≡ Found r k → i .at + k ≤ i .end

@@ -3,11 +3,11 @@
 use libc::STDIN_FILENO;
 use libc::STDOUT_FILENO;
 use records::Running;
-use unbounded::memory;
 ghost use lib.ListN.{length};
 ghost use Rattle.day_runner.specs.Input.{Within};
 
 mod input;
+mod printed;
 mod records;
 
 // Writes the first n bytes of a buffer, and answers whether that went well.
@@ -26,8 +26,10 @@ fn pass(r: Running, bytes: &mut [u8], out: &mut [u8]) -> Running
     let at = r.place;
     let before = at.input;
     let input = input::refill(STDIN_FILENO, bytes, before);
-    let ran = records::run(records::refilled(r, input), bytes, out);
-    if records::is_waiting(ran, out.len()) {
+    let size = bytes.len();
+    let mut page = [0u32; 8];
+    let ran = records::run(records::refilled(r, input, size), bytes, out, &mut page);
+    if records::is_waiting(ran.place, out.len()) {
         return ran;
     }
     let went = write_out(out, ran.place.written);
@@ -38,7 +40,7 @@ fn pass(r: Running, bytes: &mut [u8], out: &mut [u8]) -> Running
 fn main() {
     let mut bytes = io::large_buffer();
     let mut out = io::large_buffer();
-    let mut ran = records::start(memory::blank());
+    let mut ran = records::start();
     let mut passes = u64::MAX;
     while passes > 0 && !ran.place.ended {
         ran = pass(ran, &mut bytes, &mut out);

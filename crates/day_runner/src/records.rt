@@ -1,38 +1,48 @@
-// The records in the input buffer: each is read, run on the memory, and its line laid into the output.
+// The records in the input buffer: each is read, asked of the table, and its line laid into the output.
 use crate::input::Input;
+use crate::printed;
+use dayfile::Reading;
+use daytext::LONGEST;
+use snapshot::Answer;
+use snapshot::Request;
+use unbounded::Day;
+use unbounded::Outcome;
+use unbounded::Process;
+use unbounded::table;
 ghost use mathlib.Core.Path.{_≡_};
-ghost use Prim.Native.Nat.{_+_, _≤_};
+ghost use mathlib.Core.Bool.{true};
+ghost use Prim.Native.Nat.{_+_, _≤_, _<_};
 ghost use lib.ListN.{length};
 ghost use Rattle.day_runner.specs.Input.{Within, Ends};
-use dayfile::Reading;
-use dayfile::Record;
-use daytext::LONGEST;
-use daytext::Line;
-use snapshot::Answer;
-use unbounded::Day;
-use unbounded::memory;
-use unbounded::memory::Memory;
-use unbounded::memory::Stepped;
 
 // The longest record, in bytes.
 const WHOLE: usize = 10;
 
-// Where a run stands: the input, how much of the output is laid, and whether all is done.
+// Where a run stands: the day, the input, how much of the output is laid, whether all is done, and how many records at most are
+// run before the output is looked at again.
 pub struct Place {
+    pub day: Day,
     pub input: Input,
     pub written: usize,
     pub ended: bool,
+    pub left: usize,
 }
 
-// The memory, and where the run stands.
+// Where a run stands, and its table, of which it lends as many records as the day has processes.
 pub struct Running {
-    pub memory: Memory,
     pub place: Place,
+    pub table: [Process; 8],
 }
 
-// The beginning, on a memory.
-pub fn start(memory: Memory) -> Running
-    ensures { λ r. ⌜ Within (r .place .input) 0 ⌝ }
+fn with_table(place: Place, table: [Process; 8]) -> Running
+    ensures { λ x. ⌜ x .place ≡ place ⌝ }
+{
+    Running { place, table }
+}
+
+// The beginning: a blank day.
+pub fn start() -> Running
+    ensures { λ x. ⌜ Within (x .place .input) 0 ⌝ }
 {
     let input = Input {
         at: 0,
@@ -40,179 +50,79 @@ pub fn start(memory: Memory) -> Running
         last: false,
     };
     let place = Place {
+        day: unbounded::blank(),
         input,
         written: 0,
         ended: false,
+        left: 0,
     };
-    Running { memory, place }
+    with_table(place, table::blank())
+}
+
+// Whether the output has room for the line of a record and the last two.
+fn has_room(at: Place, room: usize) -> bool {
+    if room < at.written {
+        return false;
+    }
+    3 * LONGEST <= room - at.written
 }
 
 // Whether the output can take more before it is written.
-pub fn is_waiting(r: Running, room: usize) -> bool {
-    let place = r.place;
-    if place.ended {
+pub fn is_waiting(at: Place, room: usize) -> bool {
+    if at.ended {
         return false;
     }
-    if room < place.written {
-        return false;
-    }
-    3 * LONGEST <= room - place.written
+    has_room(at, room)
 }
 
 // After the output was written, or could not be.
 pub fn flushed(r: Running, went: bool) -> Running
     ensures { λ x. ⌜ x .place .input ≡ r .place .input ⌝ }
 {
-    let memory = r.memory;
-    let before = r.place;
-    let input = before.input;
-    let ended = if went { before.ended } else { true };
+    let table = r.table;
+    let at = r.place;
+    let day = at.day;
+    let input = at.input;
+    let ended = if went { at.ended } else { true };
     let place = Place {
+        day,
         input,
         written: 0,
         ended,
+        left: at.left,
     };
-    Running { memory, place }
+    with_table(place, table)
 }
 
-// A run whose input was filled up.
-pub fn refilled(r: Running, input: Input) -> Running
+// A run whose input was filled up, in a buffer of that many bytes. No record is empty, so there are at most as many as bytes.
+pub fn refilled(r: Running, input: Input, size: usize) -> Running
     ensures { λ x. ⌜ x .place .input ≡ input ⌝ }
 {
-    let memory = r.memory;
-    let before = r.place;
+    let table = r.table;
+    let at = r.place;
+    let day = at.day;
     let place = Place {
+        day,
         input,
-        written: before.written,
-        ended: before.ended,
+        written: at.written,
+        ended: at.ended,
+        left: size,
     };
-    Running { memory, place }
+    with_table(place, table)
 }
 
-// The item of a record on a memory, with a page list of eight words.
-fn step(m: Memory, r: Record, page: &mut [u32]) -> Stepped {
-    match r {
-        Record::Open(count) => memory::open(m, count),
-        Record::Update { process, word } => memory::update_call(m, process, word),
-        Record::Scan(process) => memory::scan_call(m, process),
-        Record::Turn(process) => memory::turn(m, process, page),
-    }
-}
-
-// The number of a record's process, or of an opening's processes.
-fn number_in(r: Record) -> u32 {
-    match r {
-        Record::Open(count) => count,
-        Record::Update { process, word: _ } => process,
-        Record::Scan(process) => process,
-        Record::Turn(process) => process,
-    }
-}
-
-// The line of a call that was accepted with the given event number.
-fn call_line(r: Record, event: u32) -> Line {
-    match r {
-        Record::Update { process, word } => Line::Update {
-            event,
-            process,
-            word,
-        },
-        Record::Open(count) => Line::Opened { count },
-        Record::Scan(process) => Line::Scan { event, process },
-        Record::Turn(process) => Line::Read { event, process },
-    }
-}
-
-// The line of a record and its answer, by the event number afterwards.
-fn line_of(r: Record, event: u32, a: Answer) -> Line {
-    let process = number_in(r);
-    match a {
-        Answer::Refused(k) => Line::Refused {
-            number: snapshot::number(k),
-        },
-        Answer::Opened => Line::Opened { count: process },
-        Answer::Called => call_line(r, event),
-        Answer::Read => Line::Read { event, process },
-        Answer::Page { lender, at, turns } => Line::Page {
-            event,
-            process,
-            lender,
-            at,
-            turns,
-        },
-        Answer::Written { turns } => Line::Written {
-            event,
-            process,
-            turns,
-        },
-    }
-}
-
-// The line of a refusal that ended the file, if one did.
-fn refused_line(reading: Reading, out: &mut [u8], to: usize) -> usize {
-    match reading {
-        Reading::Refused(k) => {
-            let number = snapshot::number(k);
-            daytext::lay(Line::Refused { number }, &[], out, to)
-        }
-        Reading::End => to,
-        Reading::Found { record: _, next: _ } => to,
-    }
-}
-
-// The end of the run: the refusal, if the file ended with one, and the line with the event number.
-fn end_of(at: Place, reading: Reading, event: u32, out: &mut [u8]) -> Place
-    ensures { λ x. ⌜ x .input ≡ at .input ⌝ }
+// Whether the next record can be run: it lies whole in the input, and the output has room.
+fn can_go(at: Place, room: usize) -> bool
+    ensures { λ b. ⌜ (b ≡ true → 0 < at .left) ⌝ }
 {
     let input = at.input;
-    let to = refused_line(reading, out, at.written);
-    let written = daytext::lay(Line::End { event }, &[], out, to);
-    Place {
-        input,
-        written,
-        ended: true,
+    if at.left == 0 {
+        return false;
     }
-}
-
-// The place after a record that took so many bytes, once its line is laid.
-fn past(
-    at: Place,
-    bytes: usize,
-    r: Record,
-    day: Day,
-    a: Answer,
-    page: &[u32],
-    out: &mut [u8],
-) -> Place
-    requires { ⌜ (at .input .at + bytes ≤ at .input .end) × (length (now page) ≡ 8) ⌝ }
-    ensures { λ x. ⌜ (x .input .at ≡ at .input .at + bytes) × (x .input .end ≡ at .input .end) ⌝ }
-{
-    let input = at.input;
-    let line = line_of(r, day.event, a);
-    let n = memory::size_of(day.count);
-    let written = daytext::lay(line, &page[..n], out, at.written);
-    let rest = Input {
-        at: input.at + bytes,
-        end: input.end,
-        last: input.last,
-    };
-    Place {
-        input: rest,
-        written,
-        ended: false,
-    }
-}
-
-// Whether the next record can be run: it lies whole in the input, and the output has room for its line and the last two.
-fn can_go(at: Place, room: usize) -> bool {
-    let input = at.input;
     if at.ended {
         return false;
     }
-    if room < at.written {
-        return false;
-    }
-    if room - at.written < 3 * LONGEST {
+    if !has_room(at, room) {
         return false;
     }
     if input.last {
@@ -235,31 +145,103 @@ fn next_of(at: Place, bytes: &[u8]) -> Reading
     dayfile::read(&bytes[start..end])
 }
 
-// Runs the records that lie whole in the input, as long as the output has room. No record is empty, so there are at most as many
-// as bytes.
-pub fn run(r: Running, bytes: &[u8], out: &mut [u8]) -> Running
+// Whether no record was found.
+fn is_none(x: Reading) -> bool {
+    match x {
+        Reading::Found { record: _, next: _ } => false,
+        Reading::End => true,
+        Reading::Refused(_) => true,
+    }
+}
+
+// The request that was found, if one was.
+fn request_of(x: Reading) -> Request {
+    match x {
+        Reading::Found { record, next: _ } => record,
+        Reading::End => Request::Turn(0),
+        Reading::Refused(_) => Request::Turn(0),
+    }
+}
+
+// How many records of the table are lent to a request: an opening's count, else the day's.
+fn lent_to(day: Day, x: Request) -> usize
+    ensures { λ n. ⌜ n ≤ 8 ⌝ }
+{
+    let n = match x {
+        Request::Open(count) => count,
+        Request::Update {
+            process: _,
+            word: _,
+        } => day.count,
+        Request::Scan(_) => day.count,
+        Request::Turn(_) => day.count,
+    };
+    if n < 8 { n as usize } else { 8 }
+}
+
+// Nothing is asked: the day stays.
+fn unasked(day: Day) -> Outcome {
+    Outcome {
+        day,
+        answer: Answer::Read,
+    }
+}
+
+// What was read is asked of the table; where no record was found, nothing.
+fn asked(day: Day, ps: &mut [Process], x: Reading, page: &mut [u32]) -> Outcome {
+    if is_none(x) {
+        return unasked(day);
+    }
+    table::step(day, ps, request_of(x), page)
+}
+
+// The place once the line of what was read is laid. A refusal ends the file, and then its end is read.
+fn past(at: Place, x: Reading, o: Outcome, page: &[u32], out: &mut [u8]) -> Place
+    requires { ⌜ Ends x (at .input) × (0 < at .left) ⌝ }
+    ensures { λ p. ⌜ (p .input .at ≤ p .input .end) × (p .input .end ≡ at .input .end) × (p .left < at .left) ⌝ }
+{
+    let input = at.input;
+    let day = o.day;
+    let written = printed::lay(x, o, page, out, at.written);
+    let left = at.left - 1;
+    let Reading::Found { record: _, next } = x else {
+        return Place {
+            day,
+            input: Input {
+                at: input.end,
+                end: input.end,
+                last: true,
+            },
+            written,
+            ended: printed::is_end(x),
+            left,
+        };
+    };
+    Place {
+        day,
+        input: Input {
+            at: input.at + next,
+            end: input.end,
+            last: input.last,
+        },
+        written,
+        ended: false,
+        left,
+    }
+}
+
+// Runs the records that lie whole in the input, as long as the output has room.
+pub fn run(r: Running, bytes: &[u8], out: &mut [u8], page: &mut [u32]) -> Running
     requires { ⌜ Within (r .place .input) (length (now bytes)) ⌝ }
     ensures { λ x. ⌜ Within (x .place .input) (length (now (bytes .entry))) ⌝ }
 {
-    let mut memory = r.memory;
+    let mut table = r.table;
     let mut place = r.place;
-    let mut page = [0u32; 8];
-    let mut left = bytes.len();
-    while left > 0 && can_go(place, out.len()) {
-        let reading = next_of(place, bytes);
-        let Reading::Found { record, next } = reading else {
-            let last = end_of(place, reading, memory.day.event, out);
-            return Running {
-                memory,
-                place: last,
-            };
-        };
-        let s = step(memory, record, &mut page);
-        let a = s.answer;
-        memory = s.memory;
-        let day = memory.day;
-        place = past(place, next, record, day, a, &page, out);
-        left -= 1;
+    while can_go(place, out.len()) {
+        let x = next_of(place, bytes);
+        let n = lent_to(place.day, request_of(x));
+        let o = asked(place.day, &mut table[..n], x, page);
+        place = past(place, x, o, page, out);
     }
-    Running { memory, place }
+    with_table(place, table)
 }

@@ -7,14 +7,14 @@ use mathlib.Core.List.{List, [], _∷_}
 use mathlib.Core.Option.{none}
 use lib.ListN.{length, drop, length-drop}
 use borrow.Author.Tests.{ltb-false}
-use Rattle.dayfile.specs.declared.Record.{Record}
+use Rattle.snapshot.specs.declared.Request.{Request}
 use Rattle.dayfile.specs.declared.Reading.{Reading}
 use Rattle.dayfile.specs.declared.Reading.the-variants.{Found, End, Refused}
 use Rattle.dayfile.specs.Reader.{lengthIn, reading}
 use Rattle.dayfile.specs.Files.{Records, readOn, recordsUpTo, records, Ends}
 use Rattle.dayfile.proofs.Reader.{found-is}
 
-found-consumes : (bs : List ℕ) (r : Record) (next : ℕ) → reading bs ≡ Found r next → (0 < next) × (next ≤ length bs)
+found-consumes : (bs : List ℕ) (r : Request) (next : ℕ) → reading bs ≡ Found r next → (0 < next) × (next ≤ length bs)
 found-consumes bs r next q =
     let is = found-is bs r next q in
     let whole : 2 + lengthIn bs ≤ length bs = ltb-false (length bs) (2 + lengthIn bs) (is .0 .1 .1 .0) in

@@ -11,7 +11,7 @@ use borrow.Author.Tests.{le-ltb, eq-eqb, ne-eqb}
 use Rattle.snapshot.specs.declared.Refusal.{Refusal}
 use Rattle.snapshot.specs.Refusals.{firstCause}
 use Rattle.snapshot.proofs.Causes.{Passes, accepted-passes}
-use Rattle.dayfile.specs.declared.Record.{Record}
+use Rattle.snapshot.specs.declared.Request.{Request}
 use Rattle.dayfile.specs.declared.Reading.the-variants.{Found, End}
 use Rattle.dayfile.specs.Layout.{lengthOf}
 use Rattle.dayfile.specs.Reader.{lengthIn, kindIn, causes, recordOf, outcome, reading}
@@ -33,7 +33,7 @@ module _ (bs : List ℕ) where
       )
 
   -- a record that is found passes every cause, is the record of its kind, and ends where its length says
-  pub found-is : (r : Record) (next : ℕ) → reading bs ≡ Found r next →
+  pub found-is : (r : Request) (next : ℕ) → reading bs ≡ Found r next →
       Passes (causes bs) × (r ≡ recordOf bs (kindIn bs)) × (next ≡ 2 + lengthIn bs)
   unfolding reading
   found-is r next = go (eqb (length bs) 0) (firstCause (causes bs)) (accepted-passes (causes bs))

@@ -5,14 +5,14 @@ use mathlib.Core.List.{List, [], _∷_}
 use mathlib.Core.Option.{Option, none, some}
 use lib.ListN.{length, drop}
 use Rattle.snapshot.specs.declared.Refusal.{Refusal}
-use Rattle.dayfile.specs.declared.Record.{Record}
+use Rattle.snapshot.specs.declared.Request.{Request}
 use Rattle.dayfile.specs.declared.Reading.{Reading}
 use Rattle.dayfile.specs.declared.Reading.the-variants.{Found, End, Refused}
 use Rattle.dayfile.specs.Reader.{reading}
 
 -- the records up to the end of a file, and the refusal that ended it, none at the ordinary end
 pub record Records : Type 0 where
-  pub found : List Record
+  pub found : List Request
   pub refusal : Option Refusal
 
 -- what a reading makes of a file, the rest of which is read by `rest`: "Refusals 7, 8 and 9 end the file"
@@ -35,6 +35,6 @@ pub record Ends (bs : List ℕ) : Type 0 where
   -- a file is what its first record says, and then what the rest says
   pub unfolds : records bs ≡ readOn records bs (reading bs)
   -- each record takes at least one byte, and no more than are left
-  pub consumes : (r : Record) (next : ℕ) → reading bs ≡ Found r next → (0 < next) × (next ≤ length bs)
+  pub consumes : (r : Request) (next : ℕ) → reading bs ≡ Found r next → (0 < next) × (next ≤ length bs)
   -- a greater count gives the same
   pub enough : (most : ℕ) → length bs ≤ most → recordsUpTo most bs ≡ records bs

@@ -2,8 +2,8 @@
 use Prim.Native.Nat.{ℕ, zero, suc, _+_, _*_, _/_, _%_, _^_, _<_}
 use mathlib.Core.List.{List, [], _∷_, _++_}
 use lib.ListN.{length, getD}
-use Rattle.dayfile.specs.declared.Record.{Record}
-use Rattle.dayfile.specs.declared.Record.the-variants.{Open, Update, Scan, Turn}
+use Rattle.snapshot.specs.declared.Request.{Request}
+use Rattle.snapshot.specs.declared.Request.the-variants.{Open, Update, Scan, Turn}
 
 -- ---- numbers
 
@@ -24,21 +24,21 @@ numberAt (suc k) bs at = getD bs at 0 + 256 * numberAt k bs (at + 1)
 -- ---- records
 
 -- the numbers fit their fields: "Every field is 16 bits but the word, 32"
-abbrev pub Fits : Record → Type 0
+abbrev pub Fits : Request → Type 0
 Fits (Open count) = count < 2 ^ 16
 Fits (Update process word) = (process < 2 ^ 16) × (word < 2 ^ 32)
 Fits (Scan process) = process < 2 ^ 16
 Fits (Turn process) = process < 2 ^ 16
 
 -- "a two-byte kind", and the fields (the table, columns Kind and After the kind)
-abbrev pub body : Record → List ℕ
+abbrev pub body : Request → List ℕ
 body (Open count) = bytesOf 2 1 ++ bytesOf 2 count
 body (Update process word) = bytesOf 2 2 ++ bytesOf 2 process ++ bytesOf 4 word
 body (Scan process) = bytesOf 2 3 ++ bytesOf 2 process
 body (Turn process) = bytesOf 2 4 ++ bytesOf 2 process
 
 -- "length first"; "Length (16 bits) counts the bytes after itself"
-abbrev pub layout : Record → List ℕ
+abbrev pub layout : Request → List ℕ
 layout r = bytesOf 2 (length (body r)) ++ body r
 
 -- the lengths of the kinds from 0 on (the table, column Length); there is no kind 0

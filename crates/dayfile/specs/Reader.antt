@@ -9,8 +9,8 @@ use lib.Dec.{eqb, ltb}
 use Rattle.snapshot.specs.Refusals.{Cause, firstCause}
 use Rattle.snapshot.specs.declared.Refusal.{Refusal}
 use Rattle.snapshot.specs.declared.Refusal.the-variants.{CutShort, UnknownKind, WrongLength}
-use Rattle.dayfile.specs.declared.Record.{Record}
-use Rattle.dayfile.specs.declared.Record.the-variants.{Open, Update, Scan, Turn}
+use Rattle.snapshot.specs.declared.Request.{Request}
+use Rattle.snapshot.specs.declared.Request.the-variants.{Open, Update, Scan, Turn}
 use Rattle.dayfile.specs.declared.Reading.{Reading}
 use Rattle.dayfile.specs.declared.Reading.the-variants.{Found, End, Refused}
 use Rattle.dayfile.specs.Layout.{numberAt, lengthOf}
@@ -33,7 +33,7 @@ causes bs =
     ∷ []
 
 -- the record of a known kind (the table, columns Kind and After the kind)
-unfoldable pub recordOf : List ℕ → ℕ → Record
+unfoldable pub recordOf : List ℕ → ℕ → Request
 recordOf bs kind =
     let first = numberAt 2 bs 4 in
     cond (eqb kind 1) (Open first)

@@ -1,23 +1,15 @@
 // The reader of day files: one record by the house layout, or the refusal that document 01's order asks for.
 use snapshot::Refusal;
+use snapshot::Request;
 ghost use mathlib.Core.Path.{_≡_};
 ghost use Prim.Native.Nat.{_+_, _<_, _≤_};
 ghost use lib.ListN.{length};
 ghost use Rattle.dayfile.specs.Layout.{numberAt, lengthOf};
 ghost use Rattle.dayfile.specs.Reader.{recordOf, reading};
 
-// A record of a day file: an opening with its count, an update call (document 01: an entry call) with its word, a scan call
-// (document 01: a page call), and a turn.
-pub enum Record {
-    Open(u32),
-    Update { process: u32, word: u32 },
-    Scan(u32),
-    Turn(u32),
-}
-
-// What the reader finds: a record and how many bytes it takes, the ordinary end, or a refusal.
+// What the reader finds: a record, which is a request, and how many bytes it takes, the ordinary end, or a refusal.
 pub enum Reading {
-    Found { record: Record, next: usize },
+    Found { record: Request, next: usize },
     End,
     Refused(Refusal),
 }
@@ -39,34 +31,33 @@ fn field(bytes: &[u8], at: usize) -> u32
     low + 256 * high
 }
 
-// The lengths of the kinds from 0 on. There is no kind 0.
-const LENGTHS: [usize; 5] = [0, 4, 8, 4, 4];
-
 // The length of a kind's records, or 0 for an unknown kind.
 fn length_of(kind: u32) -> usize
     ensures { λ r. ⌜ r ≡ lengthOf kind ⌝ }
 {
-    if 4 < kind {
-        return 0;
+    match kind {
+        1 => 4,
+        2 => 8,
+        3 => 4,
+        4 => 4,
+        _ => 0,
     }
-    let i = kind as usize;
-    LENGTHS[i]
 }
 
 // The record of a known kind whose bytes are all there.
-fn record_of(bytes: &[u8], kind: u32) -> Record
+fn record_of(bytes: &[u8], kind: u32) -> Request
     requires { ⌜ (6 ≤ length (now bytes)) × (2 + lengthOf kind ≤ length (now bytes)) ⌝ }
     ensures { λ r. ⌜ r ≡ recordOf (now (bytes .entry)) kind ⌝ }
 {
     let first = field(bytes, 4);
     match kind {
-        1 => Record::Open(first),
-        2 => Record::Update {
+        1 => Request::Open(first),
+        2 => Request::Update {
             process: first,
             word: field(bytes, 6) + 65536 * field(bytes, 8),
         },
-        3 => Record::Scan(first),
-        _ => Record::Turn(first),
+        3 => Request::Scan(first),
+        _ => Request::Turn(first),
     }
 }
 

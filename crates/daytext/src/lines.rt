@@ -1,7 +1,8 @@
 // What the lines tell, laid part by part. The answer is the place after what was laid.
 ghost use Prim.Native.Nat.{_+_, _≤_};
-ghost use mathlib.Core.List.{_++_};
+ghost use mathlib.Core.List.{[], _++_};
 ghost use lib.ListN.{length};
+ghost use Rattle.daytext.specs.Ascii.{ascii};
 ghost use Rattle.daytext.specs.Decimal.{decimal};
 ghost use Rattle.daytext.specs.Lines.{bodyOf};
 ghost use Rattle.daytext.specs.Buffer.{Laid};
@@ -24,14 +25,14 @@ pub fn body(line: Line, words: &[u32], out: &mut [u8], at: usize) -> usize
             event: n,
             process,
             word,
-        } => event_with(n, b" entry ", process, b" ", word, out, at),
-        Line::Scan { event: n, process } => event(n, b" asked ", process, out, at),
-        Line::Read { event: n, process } => event(n, b" read ", process, out, at),
+        } => update(n, process, word, out, at),
+        Line::Scan { event: n, process } => scan(n, process, out, at),
+        Line::Read { event: n, process } => read(n, process, out, at),
         Line::Written {
             event: n,
             process,
             turns,
-        } => event_with(n, b" written ", process, b" turns ", turns, out, at),
+        } => written(n, process, turns, out, at),
         Line::Page {
             event: n,
             process,
@@ -44,34 +45,56 @@ pub fn body(line: Line, words: &[u32], out: &mut [u8], at: usize) -> usize
     }
 }
 
-// Lays the number of an event, what happened, and the process.
-fn event(n: u32, what: &[u8], process: u32, out: &mut [u8], at: usize) -> usize
-    requires { ⌜ at + length (now what) + 20 ≤ length (now out) ⌝ }
-    ensures { λ r. ⌜ Laid (now (out .entry)) at (decimal n ++ (now (what .entry) ++ decimal process)) (now (out .exit)) r ⌝ }
-    ensures { λ r. ⌜ r ≤ at + length (now (what .entry)) + 20 ⌝ }
+// The lines with an event, each apart, so that its texts are laid out for it alone.
+fn update(n: u32, process: u32, word: u32, out: &mut [u8], at: usize) -> usize
+    requires { ⌜ at + 255 ≤ length (now out) ⌝ }
+    ensures { λ r. ⌜ Laid (now (out .entry)) at (bodyOf (Line.Update n process word) []) (now (out .exit)) r ⌝ }
+    ensures { λ r. ⌜ r ≤ at + 255 ⌝ }
 {
     let a = number(n, out, at);
-    field(what, process, out, a)
+    let b = field(b" entry ", process, out, a);
+    field(b" ", word, out, b)
 }
 
-// Lays the same and one more text with its number.
-fn event_with(
-    n: u32,
-    what: &[u8],
-    process: u32,
-    text: &[u8],
-    more: u32,
-    out: &mut [u8],
-    at: usize,
-) -> usize
-    requires { ⌜ at + length (now what) + length (now text) + 30 ≤ length (now out) ⌝ }
-    ensures { λ r. ⌜ Laid (now (out .entry)) at
-        (decimal n ++ (now (what .entry) ++ decimal process) ++ (now (text .entry) ++ decimal more))
-        (now (out .exit)) r ⌝ }
-    ensures { λ r. ⌜ r ≤ at + length (now (what .entry)) + length (now (text .entry)) + 30 ⌝ }
+fn scan(n: u32, process: u32, out: &mut [u8], at: usize) -> usize
+    requires { ⌜ at + 255 ≤ length (now out) ⌝ }
+    ensures { λ r. ⌜ Laid (now (out .entry)) at (bodyOf (Line.Scan n process) []) (now (out .exit)) r ⌝ }
+    ensures { λ r. ⌜ r ≤ at + 255 ⌝ }
 {
-    let a = event(n, what, process, out, at);
-    field(text, more, out, a)
+    let a = number(n, out, at);
+    field(b" asked ", process, out, a)
+}
+
+fn read(n: u32, process: u32, out: &mut [u8], at: usize) -> usize
+    requires { ⌜ at + 255 ≤ length (now out) ⌝ }
+    ensures { λ r. ⌜ Laid (now (out .entry)) at (bodyOf (Line.Read n process) []) (now (out .exit)) r ⌝ }
+    ensures { λ r. ⌜ r ≤ at + 255 ⌝ }
+{
+    let a = number(n, out, at);
+    field(b" read ", process, out, a)
+}
+
+fn written(n: u32, process: u32, turns: u32, out: &mut [u8], at: usize) -> usize
+    requires { ⌜ at + 255 ≤ length (now out) ⌝ }
+    ensures { λ r. ⌜ Laid (now (out .entry)) at (bodyOf (Line.Written n process turns) []) (now (out .exit)) r ⌝ }
+    ensures { λ r. ⌜ r ≤ at + 255 ⌝ }
+{
+    let a = number(n, out, at);
+    let b = field(b" written ", process, out, a);
+    field(b" turns ", turns, out, b)
+}
+
+// Lays the beginning of a page's line, up to the lender.
+fn lent(n: u32, process: u32, lender: u32, out: &mut [u8], at: usize) -> usize
+    requires { ⌜ at + 42 ≤ length (now out) ⌝ }
+    ensures { λ r. ⌜ Laid (now (out .entry)) at
+        (decimal n ++ (ascii " page " ++ decimal process) ++ (ascii " from " ++ decimal lender))
+        (now (out .exit)) r ⌝ }
+    ensures { λ r. ⌜ r ≤ at + 42 ⌝ }
+{
+    let a = number(n, out, at);
+    let b = field(b" page ", process, out, a);
+    field(b" from ", lender, out, b)
 }
 
 // Lays a page: the event and the process, then the lender, the instant, the turns and the words.
@@ -92,7 +115,7 @@ fn page(
         (now (out .exit)) r ⌝ }
     ensures { λ r. ⌜ r ≤ at + 255 ⌝ }
 {
-    let a = event_with(n, b" page ", process, b" from ", lender, out, at);
+    let a = lent(n, process, lender, out, at);
     let b = field(b" at ", instant, out, a);
     let c = field(b" turns ", turns, out, b);
     let d = bytes(b" words", out, c);

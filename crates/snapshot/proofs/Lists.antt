@@ -9,7 +9,7 @@ use mathlib.Core.Logic.{by-cases}
 use mathlib.Core.Bool.{Bool, true, false, cond, _||_, true≢false}
 use mathlib.Core.List.{List, [], _∷_, _++_, map}
 use lib.ListN.{length, getD, take, drop, set, replicate, length-append, length-drop, List·getD-append}
-use lib.Seq.{take-at, getD-take, ext-getD, drop-cons, set-at, length-take-le, append-snoc, take-suc, take-take}
+use lib.Seq.{take-at, getD-at, getD-take, ext-getD, drop-cons, set-at, length-take-le, append-snoc, take-suc, take-take}
 use Rattle.snapshot.specs.Lists.{over, eachFrom, each, firstFrom, firstBelow, someOf}
 
 -- ---- the first n places of a over those of b
@@ -23,6 +23,11 @@ module _ {A : Type 0} (n : ℕ) (a b : List A) where
 
   pub getD-over : (i : ℕ) (z : A) → length (take n a) ≡ n → i < n → getD (over n a b) i z ≡ getD a i z
   getD-over i z l m = List·getD-append (take n a) (drop n b) z i (omega arith) ∙ getD-take n a i z m
+
+  pub getD-over-at : (z : A) → n ≤ length a → n < length b → getD (over n a b) n z ≡ getD b n z
+  getD-over-at z l m =
+      ap (λ t. getD (take n a ++ t) n z) (drop-cons b n z m)
+      ∙ getD-at (take n a) (getD b n z) (drop (suc n) b) z n (length-take-le n a l)
 
   pub over-take : over n (take n a) b ≡ over n a b
   over-take = ap (λ t. t ++ drop n b) (take-take n n a (omega arith))

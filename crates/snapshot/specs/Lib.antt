@@ -1,4 +1,5 @@
 -- What an atomic snapshot memory answers and owes, whatever the method. Read in this order.
+pub mod Requests
 pub mod Refusals
 pub mod Tally
 pub mod Demand

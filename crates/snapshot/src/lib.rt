@@ -1,6 +1,16 @@
-// What every method of the register answers, and the papers' number of each refusal.
+// What is asked of every method of the register, what it answers, and the papers' number of each refusal.
 ghost use mathlib.Core.Path.{_≡_};
 ghost use Rattle.snapshot.specs.Refusals.{numberOf};
+ghost use Rattle.snapshot.specs.Requests.{numberIn};
+
+// What is asked of a day: an opening with its count, an update call (document 01: an entry call) with its word, a scan call
+// (document 01: a page call), or a turn.
+pub enum Request {
+    Open(u32),
+    Update { process: u32, word: u32 },
+    Scan(u32),
+    Turn(u32),
+}
 
 // Why an item is refused. Document 01 knows these by their numbers.
 pub enum Refusal {
@@ -43,5 +53,17 @@ pub fn number(r: Refusal) -> u32
         Refusal::WrongLength => 9,
         Refusal::OpenState => 10,
         Refusal::CannotArise => 11,
+    }
+}
+
+// The number of a request's process, or of an opening's processes.
+pub fn number_in(x: Request) -> u32
+    ensures { λ k. ⌜ k ≡ numberIn x ⌝ }
+{
+    match x {
+        Request::Open(count) => count,
+        Request::Update { process, word: _ } => process,
+        Request::Scan(process) => process,
+        Request::Turn(process) => process,
     }
 }

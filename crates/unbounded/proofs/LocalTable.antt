@@ -1,7 +1,7 @@
 -- A local table of eight records, of which the first ones are lent as a slice: its cell is taken apart into the row of the first m and
--- the row of the rest (`table-out`), and put together again (`table-back`). And what a walk over a memory by value needs of it.
+-- the row of the rest (`table-out`), and put together again (`table-back`).
 use mathlib.Core.Path.{_≡_, sym, subst, _∙_}
-use Prim.Native.Nat.{ℕ, zero, suc, _+_, _<_, _^_}
+use Prim.Native.Nat.{ℕ, zero, suc, _+_, _≤_}
 use native.Mathlib.Nat.{lt-of-le-of-lt, mul-le-mul-right}
 use native.Mathlib.Omega.{arith}
 use mathlib.Core.List.{List, [], _∷_, _++_, map}
@@ -26,22 +26,13 @@ use denote.ArrayMemory.{array-apart, array-whole}
 use denote.Index.{row, place}
 use denote.Steps.{facts, owned}
 use denote.Struct.Steps.{spelt}
-use denote.Struct.Laws as SL
 use denote.Struct.Field.{array-field}
 use denote.Shadow.{shadow}
 use denote.Slice.{Room}
-use Rattle.unbounded.specs.declared.memory.Memory.{Memory}
 use Rattle.unbounded.specs.declared.Process.{Process}
 use Rattle.unbounded.proofs.Process as P
 use Rattle.unbounded.proofs.Process.Laws as P′
-use Rattle.unbounded.proofs.memory.Memory as Me
-use Rattle.unbounded.proofs.memory.Memory.Laws as Me′
-use Rattle.unbounded.proofs.memory.Stepped as St
-use Rattle.unbounded.proofs.memory.Stepped.Laws as St′
-use Rattle.unbounded.specs.Memories.{sizeOf}
-use Rattle.unbounded.proofs.Memories.{size-le}
 use Rattle.unbounded.proofs.Walks.{Data, Row, bytes, a-process}
-use Rattle.unbounded.proofs.PassedOn.{a-day}
 
 abbrev pub Table : RattleType
 Table = Array Row 8
@@ -49,20 +40,11 @@ Table = Array Row 8
 abbrev pub a-table : Data
 a-table = record { row = Table; val = λ xs. arrayVal (map (λ x. P′.lowered x) xs); told = array-tells Row (λ p. P′.lowered p ∷ []) (a-process .told) 8; made = λ 𝓤 H A W. array-makes 𝓤 H A W Row (a-process .made 𝓤 H A W) 8; lawful = λ 𝓤 H A W. array-lawful 𝓤 H A W Row (a-process .lawful 𝓤 H A W) 8 }
 
--- ---- a memory by value
-abbrev pub a-memory : Data
-a-memory = record { row = Me.the-row; val = Me′.lowered; told = Me′.lowers .val-is; made = λ 𝓤 H A W. SL.makes Me.the-type Me′.the-plain 𝓤 H A; lawful = SL.lawful Me.the-type Me′.the-laws }
-
-abbrev pub a-stepped : Data
-a-stepped = record { row = St.the-row; val = St′.lowered; told = St′.lowers .val-is; made = λ 𝓤 H A W. SL.makes St.the-type St′.the-plain 𝓤 H A; lawful = SL.lawful St.the-type St′.the-laws }
-
-spelled : (D : Data) (x : D .row .Denot) (vs : List Val) → Is (D .row) x vs → Is (D .row) x (D .val x ∷ [])
+-- the machine value of plain data is the one that its bundle says
+pub spelled : (D : Data) (x : D .row .Denot) (vs : List Val) → Is (D .row) x vs → Is (D .row) x (D .val x ∷ [])
 spelled D x vs is = subst (Is (D .row) x) (D .told x vs is) is
 
-pub size-fits : (n : ℕ) → sizeOf n < 2 ^ 64
-size-fits n = lt-of-le-of-lt (size-le n) (lit< tt)
-
--- a table is a field of a memory by its records' own fields
+-- a table is a field of a struct by its records' own fields
 abbrev Fields : RattleType
 Fields = array-field P.the-field 8 .row
 
@@ -72,34 +54,23 @@ each-as [] (u ∷ us) s = absurd s
 each-as (x ∷ xs) [] s = absurd s
 each-as (x ∷ xs) (u ∷ us) s = (s .0, each-as xs us (s .1))
 
-table-as : (xs : List Process) (vs : List Val) → Is Fields (map (P.the-field .into) xs) vs → Is Table xs vs
+pub table-as : (xs : List Process) (vs : List Val) → Is Fields (map (P.the-field .into) xs) vs → Is Table xs vs
 table-as xs vs p = (p .0, ((p .1 .0 .0, sym (length-map xs (P.the-field .into)) ∙ p .1 .0 .1), each-as xs (p .0) (p .1 .1)))
 
-module _ (m : Memory) (is : Is (a-memory .row) m (a-memory .val m ∷ [])) where
-  -- its fields
-  pub day-of : Is (a-day .row) (m .day) (a-day .val (m .day) ∷ [])
-  day-of = spelled a-day (m .day) _ (is .1 .1 .0)
+-- the records that are lent where there are n, and the table once they have become us
+module _ (xs : List Process) (is : Is Table xs (a-table .val xs ∷ [])) (n : ℕ) (few : n ≤ 8) where
+  eight : length xs ≡ 8
+  eight = is .1 .0 .1
 
-  pub table-of : Is Table (m .table) (a-table .val (m .table) ∷ [])
-  table-of = spelled a-table (m .table) _ (table-as (m .table) _ (is .1 .1 .1 .0))
+  pub lent-long : length (take n xs) ≡ n
+  lent-long = let l = few in let e = eight in length-take-le n xs (omega (arith, l, e))
 
-  pub count-fits : m .day .count < 2 ^ 32
-  count-fits = day-of .1 .1 .0 .1
+  pub lent-room : Room Row (length (take n xs))
+  lent-room = subst (Room Row) (sym lent-long) (lt-of-le-of-lt few (lit< tt), lt-of-le-of-lt (mul-le-mul-right bytes few) (lit< tt))
 
-  eight : length (m .table) ≡ 8
-  eight = table-of .1 .0 .1
-
-  -- the records that are lent where n are asked for
-  pub lent-long : (n : ℕ) → length (take (sizeOf n) (m .table)) ≡ sizeOf n
-  lent-long n = let l = size-le n in let e = eight in length-take-le (sizeOf n) (m .table) (omega (arith, l, e))
-
-  pub lent-room : (n : ℕ) → Room Row (length (take (sizeOf n) (m .table)))
-  lent-room n = subst (Room Row) (sym (lent-long n)) (size-fits n, lt-of-le-of-lt (mul-le-mul-right bytes (size-le n)) (lit< tt))
-
-  -- and the table once they have become us
-  pub whole-long : (n : ℕ) (us : List Process) → length us ≡ sizeOf n → length (us ++ rest-of (sizeOf n) (m .table)) ≡ 8
-  whole-long n us l =
-      let a = length-append us (rest-of (sizeOf n) (m .table)) in let b = length-drop (sizeOf n) (m .table) in let c = size-le n in let e = eight in
+  pub whole-long : (us : List Process) → length us ≡ n → length (us ++ rest-of n xs) ≡ 8
+  whole-long us l =
+      let a = length-append us (rest-of n xs) in let b = length-drop n xs in let c = few in let e = eight in
       omega (arith, a, b, c, e, l)
 
 -- ---- memory

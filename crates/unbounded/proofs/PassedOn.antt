@@ -39,6 +39,8 @@ use Rattle.unbounded.proofs.Outcome as O
 use Rattle.unbounded.proofs.Outcome.Laws as O′
 use Rattle.snapshot.proofs.Answer as N
 use Rattle.snapshot.proofs.Answer.Laws as N′
+use Rattle.snapshot.proofs.Request as Q
+use Rattle.snapshot.proofs.Request.Laws as Q′
 
 abbrev pub a-day : Data
 a-day = record { row = D.the-row; val = D′.lowered; told = D′.lowers .val-is; made = λ 𝓤 H A W. SL.makes D.the-type D′.the-plain 𝓤 H A; lawful = SL.lawful D.the-type D′.the-laws }
@@ -51,6 +53,9 @@ an-outcome = record { row = O.the-row; val = O′.lowered; told = O′.lowers .v
 
 abbrev pub an-answer : Data
 an-answer = record { row = N.the-row; val = N′.lowered; told = N′.lowers .val-is; made = λ 𝓤 H A W. EL.makes N.the-type N′.the-plain 𝓤 H A; lawful = λ 𝓤 H A W. EL.lawful N.the-type N′.the-laws 𝓤 H A W tt }
+
+abbrev pub a-request : Data
+a-request = record { row = Q.the-row; val = Q′.lowered; told = Q′.lowers .val-is; made = λ 𝓤 H A W. EL.makes Q.the-type Q′.the-plain 𝓤 H A; lawful = λ 𝓤 H A W. EL.lawful Q.the-type Q′.the-laws 𝓤 H A W tt }
 
 -- whether a check refused
 pub refused-some : (c : Option Refusal) → T (isRefusal c) → (k : Refusal) × (c ≡ one k)

@@ -77,14 +77,14 @@ module _ {M : Type 1} {𝓤 : URA M} {H : Heap 𝓤} {A : Atoms 𝓤} {K : Type 
   taken t T b o γ ys = step (λ s. fsplit t $ drop t $ fsplit t $ s)
 
   -- a row is lent as a `&mut [T]`, and comes back at the last list
-  lends : K → {G : Goal 𝓤 H} → Soaks G → (T : RattleType) (b o : ℕ) (ys : List (T .Denot)) → Room T (length ys)
+  pub lends : K → {G : Goal 𝓤 H} → Soaks G → (T : RattleType) (b o : ℕ) (ys : List (T .Denot)) → Room T (length ys)
       → ((α : ℕ) (δ : GName) → Seq K W (‵ (flft (α ∷ []) fullShare) ∷ ‵ (lent-of T b o ys α δ) ∷ ‵ (owed-of T b o ys α δ) ∷ Γ) G)
       → Seq K W (‵ (row T fullShare ys b o) ∷ Γ) G
   lends t z T b o ys room k =
       use1 W (‵ (cells (mem T) ys b o)) (whole-in 𝓤 H A W T ys b o) $ lft-new t z (λ α. move t (1 ∷ []) $
       use1 W (later (some (λ (δ : GName). ‵ (lent-of T b o ys α δ) ⊛ ‵ (owed-of T b o ys α δ)))) (lends-slice 𝓤 H A W T (named 0) (α ∷ []) ys b o room) $ await t z $ pick t (λ δ. split t $ move t (2 ∷ []) $ k α δ))
 
-  comes-back : K → {G : Goal 𝓤 H} → Soaks G → (T : RattleType) (b o : ℕ) (ys us : List (T .Denot)) (α : ℕ) (δ : GName)
+  pub comes-back : K → {G : Goal 𝓤 H} → Soaks G → (T : RattleType) (b o : ℕ) (ys us : List (T .Denot)) (α : ℕ) (δ : GName)
       → (length us ≡ length ys → Seq K W (‵ (row T fullShare us b o) ∷ Γ) G)
       → Seq K W (‵ (flft (α ∷ []) fullShare) ∷ ‵ (finally T δ us) ∷ ‵ (owed-of T b o ys α δ) ∷ Γ) G
   comes-back t z T b o ys us α δ k =

@@ -21,8 +21,9 @@ use Rattle.unbounded.specs.declared.Task.{Task}
 use Rattle.unbounded.specs.declared.Task.the-variants.{Idle, Scan, Update, Ready}
 use Rattle.unbounded.specs.Registers.{ascending, shown, differs, lends, collectedAt}
 use Rattle.unbounded.specs.Processes.{begin}
+use Rattle.unbounded.specs.Days.{isIdle}
 use Rattle.unbounded.specs.Turns.{position, firstAfter, secondAfter, endAfter, decision, markFrom, passed, marksAfter, found, afterRead, foundBy, scanTurn, updateTurn, turnedBy}
-use Rattle.unbounded.specs.Steps.{decisionFind, findOf, readBy, stateBy, answerBy, pageBy, isReady, placeOf}
+use Rattle.unbounded.specs.Steps.{decisionFind, findOf, withTask, keepsBy, readBy, stateBy, answerBy, pageBy, isReady, placeOf}
 use Rattle.unbounded.proofs.Places.{shown-long}
 
 -- n words laid over eight zeros and then over a list are those words laid over the list
@@ -44,17 +45,21 @@ module _ (n now : ℕ) (r : Register) (page : List ℕ) (p : Process) where
     abbrev end : ℕ
     end = endAfter n pos now (p .«first_end»)
 
-    read-is : (v : Option Verdict) (k : Task) (w : List ℕ) → decision ascending n pos a b (p .moved) ≡ v →
-        afterRead ascending n now pos r p k w ≡ readBy n now pos r p (passed n v) k w
+    -- the record of task k, with task k′ and view w, where the decision found f
+    read-is : (v : Option Verdict) (k k′ : Task) (f : Find) (w : List ℕ) → decision ascending n pos a b (p .moved) ≡ v → passed n v ≡ f .passed →
+        w ≡ cond (keepsBy f k) (over n (f .words) (p .view)) (p .view) →
+        afterRead ascending n now pos r p k′ w ≡ withTask k′ (readBy n now pos r p f k)
     unfolding afterRead readBy marksAfter
-    read-is v k w q =
-        ap (λ u. record { register = p .register; task = k; first = a; second = b; «first_end» = end; view = w; moved = markFrom (differs ascending a b) (passed n u) 0 (p .moved) }) q
+    read-is v k k′ f w q m e =
+        ap (λ u. record { register = p .register; task = k′; first = a; second = b; «first_end» = end; view = w; moved = markFrom (differs ascending a b) u 0 (p .moved) }) (ap (passed n) q ∙ m)
+        ∙ ap (λ u. record { register = p .register; task = k′; first = a; second = b; «first_end» = end; view = u; moved = markFrom (differs ascending a b) (f .passed) 0 (p .moved) }) e
 
   scan-steps : (t : ℕ) (v : Option Verdict) → let pos = position n t in
       decision ascending n pos (a pos) (b pos) (p .moved) ≡ v →
       scanTurn ascending n now r page p t (found ascending n (b pos) (end pos) v)
       ≡ steps n now pos r page p (decisionFind n (end pos) (b pos) v) (Scan t)
-  scan-steps t none q = ap (λ s. record { state = s; answer = Read; page = page }) (read-is (position n t) none (Scan (t + 1)) (p .view) q)
+  unfolding stateBy
+  scan-steps t none q = ap (λ s. record { state = s; answer = Read; page = page }) (read-is (position n t) none (Scan t) (Scan (t + 1)) (decisionFind n (end (position n t)) (b (position n t)) none) (p .view) q refl refl)
   scan-steps t (some clean) q =
       let pos = position n t in
       ap (λ w. record { state = begin n Idle p; answer = Page 0 (end pos) (t + 1); page = w })
@@ -62,39 +67,39 @@ module _ (n now : ℕ) (r : Register) (page : List ℕ) (p : Process) where
   scan-steps t (some (lent j)) q =
       let c = collectedAt ascending (b (position n t)) j in
       ap (λ w. record { state = begin n Idle p; answer = Page (j + 1) (c .at) (t + 1); page = w }) (over-take n (c .view) page)
-  scan-steps t (some again) q = ap (λ s. record { state = s; answer = Read; page = page }) (read-is (position n t) (some again) (Scan (t + 1)) (p .view) q)
+  scan-steps t (some again) q = ap (λ s. record { state = s; answer = Read; page = page }) (read-is (position n t) (some again) (Scan t) (Scan (t + 1)) (decisionFind n (end (position n t)) (b (position n t)) (some again)) (p .view) q refl refl)
 
   update-steps : (w t : ℕ) (v : Option Verdict) → let pos = position n t in
       decision ascending n pos (a pos) (b pos) (p .moved) ≡ v →
       updateTurn ascending n now r page p w t (found ascending n (b pos) (end pos) v)
       ≡ steps n now pos r page p (decisionFind n (end pos) (b pos) v) (Update w t)
-  update-steps w t none q = ap (λ s. record { state = s; answer = Read; page = page }) (read-is (position n t) none (Update w (t + 1)) (p .view) q)
+  unfolding stateBy
+  update-steps w t none q = ap (λ s. record { state = s; answer = Read; page = page }) (read-is (position n t) none (Update w t) (Update w (t + 1)) (decisionFind n (end (position n t)) (b (position n t)) none) (p .view) q refl refl)
   update-steps w t (some clean) q =
       let pos = position n t in
       ap (λ s. record { state = s; answer = Read; page = page })
-      (read-is pos (some clean) (Ready w (end pos) (t + 1)) (over n (shown ascending n (b pos)) (p .view)) q
-      ∙ ap (readBy n now pos r p 0 (Ready w (end pos) (t + 1)))
+      (read-is pos (some clean) (Update w t) (Ready w (end pos) (t + 1)) (decisionFind n (end pos) (b pos) (some clean)) (over n (shown ascending n (b pos)) (p .view)) q refl
       (over-over n (shown ascending n (b pos)) (replicate 8 0) (p .view) (shown-long ascending n (b pos))))
   update-steps w t (some (lent j)) q =
       let pos = position n t in
       let c = collectedAt ascending (b pos) j in
       ap (λ s. record { state = s; answer = Read; page = page })
-      (read-is pos (some (lent j)) (Ready w (c .at) (t + 1)) (over n (take n (c .view)) (p .view)) q
-      ∙ ap (readBy n now pos r p j (Ready w (c .at) (t + 1))) (over-take n (c .view) (p .view)))
-  update-steps w t (some again) q = ap (λ s. record { state = s; answer = Read; page = page }) (read-is (position n t) (some again) (Update w (t + 1)) (p .view) q)
+      (read-is pos (some (lent j)) (Update w t) (Ready w (c .at) (t + 1)) (decisionFind n (end pos) (b pos) (some (lent j))) (over n (take n (c .view)) (p .view)) q refl (over-take n (c .view) (p .view)))
+  update-steps w t (some again) q = ap (λ s. record { state = s; answer = Read; page = page }) (read-is (position n t) (some again) (Update w t) (Update w (t + 1)) (decisionFind n (end (position n t)) (b (position n t)) (some again)) (p .view) q refl refl)
 
   -- a reading turn
-  pub reading-is-steps : (k : Task) → isReady k ≡ false → let pos = placeOf n k in
+  pub reading-is-steps : (k : Task) → isIdle k ≡ false → isReady k ≡ false → let pos = placeOf n k in
       turnedBy ascending n now r page p k ≡ steps n now pos r page p (findOf n now pos r p) k
   unfolding foundBy findOf
-  reading-is-steps Idle q = refl
-  reading-is-steps (Scan t) q = scan-steps t (decision ascending n (position n t) (a (position n t)) (b (position n t)) (p .moved)) refl
-  reading-is-steps (Update w t) q = update-steps w t (decision ascending n (position n t) (a (position n t)) (b (position n t)) (p .moved)) refl
-  reading-is-steps (Ready w at t) q = absurd (true≢false q)
+  reading-is-steps Idle i q = absurd (true≢false i)
+  reading-is-steps (Scan t) i q = scan-steps t (decision ascending n (position n t) (a (position n t)) (b (position n t)) (p .moved)) refl
+  reading-is-steps (Update w t) i q = update-steps w t (decision ascending n (position n t) (a (position n t)) (b (position n t)) (p .moved)) refl
+  reading-is-steps (Ready w at t) i q = absurd (true≢false q)
 
   -- a writing turn, which reads no register and finds nothing
   pub writing-is-steps : (k : Task) (now′ pos : ℕ) (r′ : Register) (f : Find) → isReady k ≡ true →
       turnedBy ascending n now r page p k ≡ steps n now′ pos r′ page p f k
+  unfolding stateBy
   writing-is-steps Idle now′ pos r′ f q = absurd (true≢false (sym q))
   writing-is-steps (Scan t) now′ pos r′ f q = absurd (true≢false (sym q))
   writing-is-steps (Update w t) now′ pos r′ f q = absurd (true≢false (sym q))

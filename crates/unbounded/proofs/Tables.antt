@@ -180,7 +180,7 @@ module _ (s : State) (d : ℕ) (page : List ℕ) (f : Fit s d (ltb (length page)
   turn-reads-table q =
       ap (λ x. record { state = advance s d (x .state); answer = x .answer; page = x .page })
       (ap (λ r. turnedBy ascending n (s .day .event + 1) r page own (own .task)) (read-is (own .task) (f .state) q)
-      ∙ reading-is-steps n (s .day .event + 1) readRegister page own (own .task) q)
+      ∙ reading-is-steps n (s .day .event + 1) readRegister page own (own .task) (f .state) q)
 
   pub turn-writes-table : isReady (own .task) ≡ true → (pos : ℕ) (r : Register) (g : Find) →
       accept ascending s (turnOf d page) ≡ turnedTo pos r g

@@ -26,6 +26,10 @@ pub record State : Type 0 where
   pub day : Day
   pub table : List Process
 
+-- "A blank day has both 0"
+abbrev pub blankDay : Day
+blankDay = record { count = 0; event = 0 }
+
 -- what can be asked of a day; processes are numbered from 1, and a turn lends a page list
 pub data Item : Type 0 where
   openFor : (count : ℕ) → Item

@@ -7,4 +7,4 @@ pub mod MarkedDays
 pub mod Figure3
 pub mod Steps
 pub mod Tables
-pub mod Memories
+pub mod Requests

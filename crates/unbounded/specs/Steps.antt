@@ -1,7 +1,7 @@
 -- What the functions on one process record compute, step by step, for registers read in ascending order. That together they are a
 -- turn of `Turns` is proved (proofs/Steps).
 use Prim.Native.Nat.{ℕ, _+_}
-use mathlib.Core.Bool.{Bool, true, false}
+use mathlib.Core.Bool.{Bool, true, false, cond}
 use mathlib.Core.List.{List}
 use mathlib.Core.Option.{Option, none, some}
 use lib.ListN.{replicate}
@@ -50,35 +50,67 @@ findOf n now pos r p =
     let b = secondAfter n pos r (p .second) in
     decisionFind n (endAfter n pos now (p .«first_end»)) b (decision ascending n pos a b (p .moved))
 
--- the record p with task k and view v once r is read, where the search for a lender passed the given number of processes
-unfoldable pub readBy : ℕ → ℕ → ℕ → Register → Process → ℕ → Task → List ℕ → Process
-readBy n now pos r p passed k v =
+-- p with another task
+abbrev pub withTask : Task → Process → Process
+withTask k p =
+    record {
+      register = p .register;
+      task = k;
+      first = p .first;
+      second = p .second;
+      «first_end» = p .«first_end»;
+      view = p .view;
+      moved = p .moved;
+    }
+
+-- whether a task keeps the page that a turn found: an update does
+abbrev pub keepsBy : Find → Task → Bool
+keepsBy f Idle = false
+keepsBy f (Scan t) = false
+keepsBy f (Update w t) = f .found
+keepsBy f (Ready w at t) = false
+
+-- the record p of task k once r is read by a turn that found f
+unfoldable pub readBy : ℕ → ℕ → ℕ → Register → Process → Find → Task → Process
+readBy n now pos r p f k =
     let a = firstAfter n pos r (p .first) in
     let b = secondAfter n pos r (p .second) in
     record {
       register = p .register;
-      task = k;
+      task = p .task;
       first = a;
       second = b;
       «first_end» = endAfter n pos now (p .«first_end»);
-      view = v;
-      moved = markFrom (differs ascending a b) passed 0 (p .moved);
+      view = cond (keepsBy f k) (over n (f .words) (p .view)) (p .view);
+      moved = markFrom (differs ascending a b) (f .passed) 0 (p .moved);
     }
 
-abbrev pub scanBy : ℕ → ℕ → ℕ → Register → Process → Find → ℕ → Bool → Process
-scanBy n now pos r p f t true = begin n Idle p
-scanBy n now pos r p f t false = readBy n now pos r p (f .passed) (Scan (t + 1)) (p .view)
+-- whether a turn that found f ends its task
+abbrev pub endsBy : Find → Task → Bool
+endsBy f Idle = false
+endsBy f (Scan t) = f .found
+endsBy f (Update w t) = false
+endsBy f (Ready w at t) = true
 
-abbrev pub updateBy : ℕ → ℕ → ℕ → Register → Process → Find → ℕ → ℕ → Bool → Process
-updateBy n now pos r p f w t true = readBy n now pos r p (f .passed) (Ready w (f .at) (t + 1)) (over n (f .words) (p .view))
-updateBy n now pos r p f w t false = readBy n now pos r p (f .passed) (Update w (t + 1)) (p .view)
+-- the task after a turn that found f
+abbrev pub taskBy : Find → Task → Task
+taskBy f Idle = Idle
+taskBy f (Scan t) = cond (f .found) Idle (Scan (t + 1))
+taskBy f (Update w t) = cond (f .found) (Ready w (f .at) (t + 1)) (Update w (t + 1))
+taskBy f (Ready w at t) = Idle
+
+-- the register after the turn of a task: an update that is ready writes it
+abbrev pub writtenBy : ℕ → Process → Task → Register
+writtenBy n p Idle = p .register
+writtenBy n p (Scan t) = p .register
+writtenBy n p (Update w t) = p .register
+writtenBy n p (Ready w at t) = written n w at p
 
 -- the record after a turn that found f
-abbrev pub stateBy : ℕ → ℕ → ℕ → Register → Process → Find → Task → Process
-stateBy n now pos r p f Idle = p
-stateBy n now pos r p f (Scan t) = scanBy n now pos r p f t (f .found)
-stateBy n now pos r p f (Update w t) = updateBy n now pos r p f w t (f .found)
-stateBy n now pos r p f (Ready w at t) = begin n Idle (withRegister (written n w at p) p)
+unfoldable pub stateBy : ℕ → ℕ → ℕ → Register → Process → Find → Task → Process
+stateBy n now pos r p f k =
+    cond (endsBy f k) (begin n Idle (withRegister (writtenBy n p k) p))
+    (withTask (taskBy f k) (readBy n now pos r p f k))
 
 abbrev pub pageOr : Find → ℕ → Bool → Answer
 pageOr f t true = Page (f .lender) (f .at) (t + 1)

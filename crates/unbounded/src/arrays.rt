@@ -4,7 +4,7 @@ ghost use mathlib.Core.Path.{_≡_};
 ghost use Prim.Native.Nat.{_≤_, _<_};
 ghost use lib.ListN.{replicate};
 ghost use Rattle.snapshot.specs.Lists.{over, firstBelow};
-ghost use Rattle.unbounded.specs.Registers.{ascending, laid, cleared, shown, differs, lends};
+ghost use Rattle.unbounded.specs.Registers.{ascending, zeroRegister, laid, shown, differs, lends};
 ghost use Rattle.unbounded.specs.Turns.{markFrom};
 
 // The first n words of a over those of b.
@@ -37,25 +37,16 @@ pub fn lay(n: usize, r: Register, old: Register) -> Register
     }
 }
 
-// The first n registers of a collect set to 0.
-pub fn clear(n: usize, rs: [Register; 8]) -> [Register; 8]
-    requires { ⌜ n ≤ 8 ⌝ }
-    ensures { λ x. ⌜ x ≡ cleared n rs ⌝ }
+// A register in which every number is 0.
+pub fn zero() -> Register
+    ensures { λ r. ⌜ r ≡ zeroRegister ⌝ }
 {
-    let zero = Register {
+    Register {
         word: 0,
         seq: 0,
         view: [0; 8],
         at: 0,
-    };
-    let mut x = rs;
-    let mut i = 0;
-    while i < n {
-        let old = rs[i];
-        x[i] = lay(n, zero, old);
-        i += 1;
     }
-    x
 }
 
 // The first of n processes whose seq differs between the two collects, or n.

@@ -2,14 +2,13 @@
 use crate::Day;
 use crate::Outcome;
 use crate::Process;
-use crate::Register;
 use crate::Task;
+use crate::arrays;
 use snapshot::Answer;
 use snapshot::Refusal;
 ghost use Prim.Native.Nat.{_+_, _-_, _<_};
 ghost use lib.Dec.{ltb};
 ghost use Rattle.unbounded.specs.Tables.{isRefusal, refusedOutcome, acceptedOutcome, openedOutcome};
-ghost use Rattle.unbounded.specs.Registers.{zeroRegister};
 ghost use mathlib.Core.Path.{_≡_};
 ghost use mathlib.Core.Bool.{_||_};
 ghost use mathlib.Core.List.{List, [], _∷_, _++_};
@@ -28,12 +27,7 @@ pub enum Check {
 pub fn zero() -> Process
     ensures { λ p. ⌜ p ≡ zeroProcess ⌝ }
 {
-    let r = Register {
-        word: 0,
-        seq: 0,
-        view: [0; 8],
-        at: 0,
-    };
+    let r = arrays::zero();
     Process {
         register: r,
         task: Task::Idle,
@@ -233,13 +227,6 @@ pub fn next_event(day: Day) -> u32
     day.event + 1
 }
 
-// Whether a page list is too short for a day.
-pub fn is_short(size: usize, day: Day) -> bool
-    ensures { λ b. ⌜ b ≡ ltb size (day .count) ⌝ }
-{
-    size < day.count as usize
-}
-
 // The outcome of an accepted opening for k processes.
 pub fn opened(k: u32) -> Outcome
     ensures { λ x. ⌜ x ≡ openedOutcome k ⌝ }
@@ -248,17 +235,5 @@ pub fn opened(k: u32) -> Outcome
     Outcome {
         day,
         answer: Answer::Opened,
-    }
-}
-
-// The register that stands for none in a writing turn, which reads no register.
-pub fn no_read() -> Register
-    ensures { λ r. ⌜ r ≡ zeroRegister ⌝ }
-{
-    Register {
-        word: 0,
-        seq: 0,
-        view: [0; 8],
-        at: 0,
     }
 }

@@ -1,7 +1,7 @@
 // Figure 3, the unbounded single-writer method: the types of its registers and processes, and its limits.
 use snapshot::Answer;
 ghost use mathlib.Core.Path.{_≡_};
-ghost use Rattle.unbounded.specs.Days.{readsUpTo8};
+ghost use Rattle.unbounded.specs.Days.{readsUpTo8, blankDay};
 
 // A register (document 01: a row): its word, how often it was written, and the page that its writer had read, with its instant.
 pub struct Register {
@@ -38,6 +38,13 @@ pub struct Day {
     pub event: u32,
 }
 
+// A blank day.
+pub fn blank() -> Day
+    ensures { λ d. ⌜ d ≡ blankDay ⌝ }
+{
+    Day { count: 0, event: 0 }
+}
+
 // A day after an item, and the item's answer.
 pub struct Outcome {
     pub day: Day,
@@ -63,6 +70,6 @@ pub fn most_reads(n: u32) -> u32
 
 mod arrays;
 mod checks;
-pub mod memory;
+mod requests;
 pub mod table;
 mod turns;

@@ -5,26 +5,38 @@ use crate::Outcome;
 use crate::Process;
 use crate::Register;
 use crate::Task;
+use crate::arrays;
 use crate::checks;
 use crate::checks::Check;
 use crate::most_reads;
+use crate::requests;
 use crate::turns;
 use crate::turns::Find;
 use snapshot::Answer;
+use snapshot::Request;
 ghost use mathlib.Core.Path.{_≡_};
 ghost use mathlib.Core.Bool.{true, false};
 ghost use mathlib.Core.Option.{none};
 ghost use Rattle.snapshot.specs.Refusals.{firstCause};
 ghost use mathlib.Core.List.{map};
 ghost use Prim.Native.Nat.{_+_, _*_, _≤_, _<_};
-ghost use lib.ListN.{length, getD, set};
+ghost use lib.ListN.{length, getD, set, replicate};
 ghost use Rattle.snapshot.specs.Lists.{someOf};
 ghost use Rattle.unbounded.specs.Processes.{noProcess, zeroProcess, begin};
 ghost use Rattle.unbounded.specs.Registers.{zeroRegister, ascending};
 ghost use Rattle.unbounded.specs.Days.{unsound, itemCauses, openFor, updateCall, scanCall, turnOf, refusal, accept, stepped};
 ghost use Rattle.unbounded.specs.Steps.{asOption, nothingFound, findOf, stateBy, answerBy, pageBy, placeOf};
-ghost use Rattle.unbounded.specs.Tables.{calledOr, stateOf, outcomeOf, acceptedOutcome, registerIn, foundIn};
+ghost use Rattle.unbounded.specs.Tables.{calledWith, stateOf, outcomeOf, acceptedOutcome, registerIn, foundIn};
 ghost use Rattle.unbounded.specs.Figure3.{turnsOf};
+ghost use Rattle.unbounded.specs.Requests.{itemOf, pageAfter};
+
+// Eight records in which every number is 0, for a caller to lend from.
+pub fn blank() -> [Process; 8]
+    ensures { λ ps. ⌜ ps ≡ replicate 8 zeroProcess ⌝ }
+{
+    let p = checks::zero();
+    [p; 8]
+}
 
 // Whether some record of the table cannot have arisen at event number e.
 fn some_bad(ps: &[Process], most: u32, e: u32) -> bool
@@ -74,12 +86,21 @@ fn find_at(ps: &[Process], i: usize, n: usize, t: u32, pos: usize, r: Register) 
     turns::find_page(n, t, pos, r, ps[i])
 }
 
-// Record i with task k and nothing collected.
+// A record with task k and nothing collected.
+fn begin_own(p: &mut Process, n: usize, k: Task)
+    requires { ⌜ n ≤ 8 ⌝ }
+    ensures { λ r. ⌜ now (p .exit) ≡ begin n k (now (p .entry)) ⌝ }
+{
+    *p = turns::begun(n, *p);
+    p.task = k;
+}
+
+// The same for record i of the table.
 fn begin_at(ps: &mut [Process], i: usize, n: usize, k: Task)
     requires { ⌜ (i < length (now ps)) × (n ≤ 8) ⌝ }
     ensures { λ r. ⌜ now (ps .exit) ≡ set (now (ps .entry)) i (begin n k (getD (now (ps .entry)) i noProcess)) ⌝ }
 {
-    ps[i] = turns::begun(n, k, ps[i]);
+    begin_own(&mut ps[i], n, k);
 }
 
 // The turn of one process, numbered t, on its own record: it read r at a position and found f.
@@ -87,7 +108,14 @@ fn turn_own(p: &mut Process, n: usize, t: u32, pos: usize, r: Register, f: Find)
     requires { ⌜ (n ≤ 8) × (pos < 2 * n) × (f .passed ≤ 8) × (now p .register .seq < 4294967295) × (turnsOf (now p .task) < 4294967295) ⌝ }
     ensures { λ x. ⌜ now (p .exit) ≡ stateBy n t pos r (now (p .entry)) f (now (p .entry) .task) ⌝ }
 {
-    *p = turns::after(n, t, pos, r, *p, f);
+    let k = p.task;
+    if turns::ends(k, f) {
+        p.register = turns::written(n, *p);
+        begin_own(p, n, turns::idle());
+        return;
+    }
+    *p = turns::read(n, t, pos, r, k, f, *p);
+    p.task = turns::task_after(k, f);
 }
 
 // The same for record i of the table.
@@ -119,33 +147,14 @@ fn plan(day: Day, ps: &[Process], short: bool, d: u32, call: bool) -> Check
     checks::state_check(call, k, day.event)
 }
 
-// A call of process d that asks for task k: refused, or the task is set.
-pub(crate) fn call(day: Day, ps: &mut [Process], d: u32, k: Task) -> Outcome
-    ensures { λ x. ⌜ x ≡ outcomeOf (calledOr (stateOf day (now (ps .entry))) d k (firstCause (itemCauses (stateOf day (now (ps .entry))) d false true))) ⌝ }
-    ensures { λ x. ⌜ now (ps .exit) ≡ calledOr (stateOf day (now (ps .entry))) d k (firstCause (itemCauses (stateOf day (now (ps .entry))) d false true)) .state .table ⌝ }
+// An accepted call of process d, which sets task k.
+fn call(day: Day, ps: &mut [Process], d: u32, k: Task) -> Outcome
+    requires { ⌜ firstCause (itemCauses (stateOf day (now ps)) d false true) ≡ none ⌝ }
+    ensures { λ x. ⌜ x ≡ outcomeOf (calledWith (stateOf day (now (ps .entry))) d k) ⌝ }
+    ensures { λ x. ⌜ now (ps .exit) ≡ calledWith (stateOf day (now (ps .entry))) d k .state .table ⌝ }
 {
-    let c = plan(day, ps, false, d, true);
-    if checks::is_refused(c) {
-        return checks::refused(day, c);
-    }
     begin_at(ps, checks::index_of(d), checks::count_of(day), k);
     checks::accepted(day, Answer::Called)
-}
-
-// An update call (document 01: an entry call) of process d, with its word.
-pub fn update_call(day: Day, ps: &mut [Process], d: u32, word: u32) -> Outcome
-    ensures { λ x. ⌜ x ≡ outcomeOf (stepped (stateOf day (now (ps .entry))) (updateCall d word)) ⌝ }
-    ensures { λ x. ⌜ now (ps .exit) ≡ stepped (stateOf day (now (ps .entry))) (updateCall d word) .state .table ⌝ }
-{
-    call(day, ps, d, turns::new_update(word))
-}
-
-// A scan call (document 01: a page call) of process d.
-pub fn scan_call(day: Day, ps: &mut [Process], d: u32) -> Outcome
-    ensures { λ x. ⌜ x ≡ outcomeOf (stepped (stateOf day (now (ps .entry))) (scanCall d)) ⌝ }
-    ensures { λ x. ⌜ now (ps .exit) ≡ stepped (stateOf day (now (ps .entry))) (scanCall d) .state .table ⌝ }
-{
-    call(day, ps, d, turns::new_scan())
 }
 
 // An opening for k processes: refused, or every record is set to 0.
@@ -173,7 +182,7 @@ fn write_turn(day: Day, ps: &mut [Process], i: usize, k: Task) -> Outcome
         checks::count_of(day),
         checks::next_event(day),
         0,
-        checks::no_read(),
+        arrays::zero(),
         turns::nothing(0),
     );
     checks::accepted(day, turns::answer(k, turns::nothing(0)))
@@ -211,15 +220,48 @@ fn turn_on(day: Day, ps: &mut [Process], d: u32, page: &mut [u32]) -> Outcome
     read_turn(day, ps, i, k, page)
 }
 
-// A turn of process d, which lends a page list: refused, or done.
+// A request on the table, with a page list that only a turn uses: refused, or done.
+pub fn step(day: Day, ps: &mut [Process], x: Request, page: &mut [u32]) -> Outcome
+    ensures { λ r. ⌜ r ≡ outcomeOf (stepped (stateOf day (now (ps .entry))) (itemOf (now (page .entry)) x)) ⌝ }
+    ensures { λ r. ⌜ now (ps .exit) ≡ stepped (stateOf day (now (ps .entry))) (itemOf (now (page .entry)) x) .state .table ⌝ }
+    ensures { λ r. ⌜ now (page .exit) ≡ pageAfter (now (page .entry)) (stepped (stateOf day (now (ps .entry))) (itemOf (now (page .entry)) x)) x ⌝ }
+{
+    let d = snapshot::number_in(x);
+    if requests::is_opening(x) {
+        return open(day, ps, d);
+    }
+    let is_call = requests::is_call(x);
+    let c = plan(day, ps, requests::is_short(x, page.len(), day), d, is_call);
+    if checks::is_refused(c) {
+        return checks::refused(day, c);
+    }
+    if is_call {
+        return call(day, ps, d, requests::task_for(x));
+    }
+    turn_on(day, ps, d, page)
+}
+
+// An update call (document 01: an entry call) of process d, with its word.
+pub fn update_call(day: Day, ps: &mut [Process], d: u32, word: u32) -> Outcome
+    ensures { λ x. ⌜ x ≡ outcomeOf (stepped (stateOf day (now (ps .entry))) (updateCall d word)) ⌝ }
+    ensures { λ x. ⌜ now (ps .exit) ≡ stepped (stateOf day (now (ps .entry))) (updateCall d word) .state .table ⌝ }
+{
+    step(day, ps, requests::update(d, word), &mut [])
+}
+
+// A scan call (document 01: a page call) of process d.
+pub fn scan_call(day: Day, ps: &mut [Process], d: u32) -> Outcome
+    ensures { λ x. ⌜ x ≡ outcomeOf (stepped (stateOf day (now (ps .entry))) (scanCall d)) ⌝ }
+    ensures { λ x. ⌜ now (ps .exit) ≡ stepped (stateOf day (now (ps .entry))) (scanCall d) .state .table ⌝ }
+{
+    step(day, ps, requests::scan(d), &mut [])
+}
+
+// A turn of process d, which lends a page list.
 pub fn turn(day: Day, ps: &mut [Process], d: u32, page: &mut [u32]) -> Outcome
     ensures { λ x. ⌜ x ≡ outcomeOf (stepped (stateOf day (now (ps .entry))) (turnOf d (now (page .entry)))) ⌝ }
     ensures { λ x. ⌜ now (ps .exit) ≡ stepped (stateOf day (now (ps .entry))) (turnOf d (now (page .entry))) .state .table ⌝ }
     ensures { λ x. ⌜ now (page .exit) ≡ stepped (stateOf day (now (ps .entry))) (turnOf d (now (page .entry))) .page ⌝ }
 {
-    let c = plan(day, ps, checks::is_short(page.len(), day), d, false);
-    if checks::is_refused(c) {
-        return checks::refused(day, c);
-    }
-    turn_on(day, ps, d, page)
+    step(day, ps, requests::turn(d), page)
 }

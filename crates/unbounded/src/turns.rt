@@ -7,11 +7,11 @@ use snapshot::Answer;
 ghost use mathlib.Core.Path.{_≡_};
 ghost use Prim.Native.Nat.{_+_, _*_, _≤_, _<_};
 ghost use Rattle.unbounded.specs.Processes.{begin};
-ghost use Rattle.unbounded.specs.Turns.{position, placeAt, firstAfter, secondAfter, endAfter, written, withRegister};
+ghost use Rattle.unbounded.specs.Turns.{position, placeAt, endAfter};
 ghost use Rattle.snapshot.specs.Verdict.{verdict};
-ghost use Rattle.unbounded.specs.declared.Task.the-variants.{Idle, Scan, Update};
+ghost use Rattle.unbounded.specs.declared.Task.the-variants.{Idle};
 ghost use Rattle.unbounded.specs.Registers.{ascending, differs, lends};
-ghost use Rattle.unbounded.specs.Steps.{nothingFound, verdictFind, findOf, readBy, stateBy, answerBy, pageBy, isReady, placeOf};
+ghost use Rattle.unbounded.specs.Steps.{nothingFound, verdictFind, findOf, readBy, keepsBy, endsBy, taskBy, writtenBy, answerBy, pageBy, isReady, placeOf};
 ghost use lib.ListN.{length};
 ghost use Rattle.snapshot.specs.Lists.{over};
 ghost use Rattle.unbounded.specs.Figure3.{turnsOf};
@@ -25,28 +25,26 @@ pub struct Find {
     pub lender: u32,
 }
 
-// The record with task k and nothing collected.
-pub fn begun(n: usize, k: Task, p: Process) -> Process
+// The record with nothing collected.
+pub fn begun(n: usize, p: Process) -> Process
     requires { ⌜ n ≤ 8 ⌝ }
-    ensures { λ q. ⌜ q ≡ begin n k p ⌝ }
+    ensures { λ q. ⌜ q ≡ begin n (p .task) p ⌝ }
 {
-    let a = p.first;
-    let b = p.second;
-    let v = p.view;
-    let register = p.register;
-    let first = arrays::clear(n, a);
-    let second = arrays::clear(n, b);
-    let zeros = [0; 8];
-    let view = arrays::over_words(n, zeros, v);
-    Process {
-        register,
-        task: k,
-        first,
-        second,
-        first_end: 0,
-        view,
-        moved: [false; 8],
+    let none = arrays::zero();
+    let mut q = p;
+    let mut i = 0;
+    while i < n {
+        let a = q.first[i];
+        let b = q.second[i];
+        q.first[i] = arrays::lay(n, none, a);
+        q.second[i] = arrays::lay(n, none, b);
+        q.view[i] = 0;
+        i += 1;
     }
+    let unmarked = [false; 8];
+    q.moved = unmarked;
+    q.first_end = 0;
+    q
 }
 
 // Where reading turn t stands in its double collect.
@@ -55,35 +53,6 @@ pub fn position_of(n: usize, t: u32) -> usize
     ensures { λ r. ⌜ r ≡ position n t ⌝ }
 {
     (t as usize) % (2 * n)
-}
-
-// The first collect once r is read at a position.
-pub fn read_first(n: usize, pos: usize, r: Register, a: [Register; 8]) -> [Register; 8]
-    requires { ⌜ n ≤ 8 ⌝ }
-    ensures { λ x. ⌜ x ≡ firstAfter n pos r a ⌝ }
-{
-    if n <= pos {
-        return a;
-    }
-    let old = a[pos];
-    let mut x = a;
-    x[pos] = arrays::lay(n, r, old);
-    x
-}
-
-// The second collect once r is read at a position.
-pub fn read_second(n: usize, pos: usize, r: Register, b: [Register; 8]) -> [Register; 8]
-    requires { ⌜ (n ≤ 8) × (pos < 2 * n) ⌝ }
-    ensures { λ x. ⌜ x ≡ secondAfter n pos r b ⌝ }
-{
-    if pos < n {
-        return b;
-    }
-    let i = pos - n;
-    let old = b[i];
-    let mut x = b;
-    x[i] = arrays::lay(n, r, old);
-    x
 }
 
 // The number of the turn that ended the first collect.
@@ -103,10 +72,12 @@ pub fn find_page(n: usize, now: u32, pos: usize, r: Register, p: Process) -> Fin
         return nothing(0);
     }
     let a = p.first;
-    let b = p.second;
     let moved = p.moved;
-    let c = read_second(n, pos, r, b);
-    decide(n, p.first_end, a, c, moved)
+    let mut b = p.second;
+    let i = pos - n;
+    let old = b[i];
+    b[i] = arrays::lay(n, r, old);
+    decide(n, p.first_end, a, b, moved)
 }
 
 // Nothing found; the search for a lender passed k processes.
@@ -151,102 +122,134 @@ pub fn decide(n: usize, end: u32, a: [Register; 8], b: [Register; 8], moved: [bo
     }
 }
 
-// The record with task k and view v once r is read, where the search for a lender passed the given number of processes.
-pub fn read(
-    n: usize,
-    now: u32,
-    pos: usize,
-    r: Register,
-    p: Process,
-    passed: usize,
-    k: Task,
-    v: [u32; 8],
-) -> Process
-    requires { ⌜ (n ≤ 8) × (pos < 2 * n) × (passed ≤ 8) ⌝ }
-    ensures { λ q. ⌜ q ≡ readBy n now pos r p passed k v ⌝ }
+// Whether a task keeps the page that a turn found: an update does.
+pub fn keeps(k: Task, f: Find) -> bool
+    ensures { λ b. ⌜ b ≡ keepsBy f k ⌝ }
 {
-    let a = p.first;
-    let b = p.second;
-    let ms = p.moved;
-    let register = p.register;
-    let first = read_first(n, pos, r, a);
-    let second = read_second(n, pos, r, b);
-    let moved = arrays::mark(passed, first, second, ms);
-    let first_end = end_of(n, pos, now, p.first_end);
-    Process {
-        register,
-        task: k,
-        first,
-        second,
-        first_end,
-        view: v,
-        moved,
+    match k {
+        Task::Idle => false,
+        Task::Scan { turns: _ } => false,
+        Task::Update { word: _, turns: _ } => f.found,
+        Task::Ready {
+            word: _,
+            at: _,
+            turns: _,
+        } => false,
     }
 }
 
-// The record after the writing turn of an update with word w and view's instant at.
-pub fn write(n: usize, w: u32, at: u32, p: Process) -> Process
-    requires { ⌜ (n ≤ 8) × (p .register .seq < 4294967295) ⌝ }
-    ensures { λ q. ⌜ q ≡ begin n Idle (withRegister (written n w at p) p) ⌝ }
+// The record of task k once r is read by a turn that found f.
+pub fn read(n: usize, now: u32, pos: usize, r: Register, k: Task, f: Find, p: Process) -> Process
+    requires { ⌜ (n ≤ 8) × (pos < 2 * n) × (f .passed ≤ 8) ⌝ }
+    ensures { λ q. ⌜ q ≡ readBy n now pos r p f k ⌝ }
 {
-    let view = p.view;
-    let old = p.register;
-    let r = Register {
-        word: w,
-        seq: old.seq + 1,
-        view,
-        at,
-    };
+    let v = p.view;
+    let words = f.words;
     let mut q = p;
-    q.register = arrays::lay(n, r, old);
-    begun(n, Task::Idle, q)
+    q.first_end = end_of(n, pos, now, q.first_end);
+    if pos < n {
+        let old = q.first[pos];
+        q.first[pos] = arrays::lay(n, r, old);
+    } else {
+        let i = pos - n;
+        let old = q.second[i];
+        q.second[i] = arrays::lay(n, r, old);
+    }
+    if keeps(k, f) {
+        let view = arrays::over_words(n, words, v);
+        q.view = view;
+    }
+    if 0 < f.passed {
+        let first = q.first;
+        let second = q.second;
+        let marks = q.moved;
+        let moved = arrays::mark(f.passed, first, second, marks);
+        q.moved = moved;
+    }
+    q
 }
 
-// The record after a turn that found f.
-pub fn after(n: usize, now: u32, pos: usize, r: Register, p: Process, f: Find) -> Process
-    requires { ⌜ (n ≤ 8) × (pos < 2 * n) × (f .passed ≤ 8) × (p .register .seq < 4294967295) × (turnsOf (p .task) < 4294967295) ⌝ }
-    ensures { λ q. ⌜ q ≡ stateBy n now pos r p f (p .task) ⌝ }
+// Whether a turn that found f ends its task.
+pub fn ends(k: Task, f: Find) -> bool
+    ensures { λ b. ⌜ b ≡ endsBy f k ⌝ }
 {
-    let k = p.task;
-    let view = p.view;
-    let words = f.words;
     match k {
-        Task::Idle => p,
+        Task::Idle => false,
+        Task::Scan { turns: _ } => f.found,
+        Task::Update { word: _, turns: _ } => false,
+        Task::Ready {
+            word: _,
+            at: _,
+            turns: _,
+        } => true,
+    }
+}
+
+// The task after a turn that found f.
+pub fn task_after(k: Task, f: Find) -> Task
+    requires { ⌜ turnsOf k < 4294967295 ⌝ }
+    ensures { λ x. ⌜ x ≡ taskBy f k ⌝ }
+{
+    match k {
+        Task::Idle => Task::Idle,
         Task::Scan { turns } => {
             if f.found {
-                begun(n, Task::Idle, p)
+                Task::Idle
             } else {
-                read(
-                    n,
-                    now,
-                    pos,
-                    r,
-                    p,
-                    f.passed,
-                    Task::Scan { turns: turns + 1 },
-                    view,
-                )
+                Task::Scan { turns: turns + 1 }
             }
         }
         Task::Update { word, turns } => {
             if f.found {
-                let kept = arrays::over_words(n, words, view);
-                let ready = Task::Ready {
+                Task::Ready {
                     word,
                     at: f.at,
                     turns: turns + 1,
-                };
-                read(n, now, pos, r, p, f.passed, ready, kept)
+                }
             } else {
-                let going = Task::Update {
+                Task::Update {
                     word,
                     turns: turns + 1,
-                };
-                read(n, now, pos, r, p, f.passed, going, view)
+                }
             }
         }
-        Task::Ready { word, at, turns: _ } => write(n, word, at, p),
+        Task::Ready {
+            word: _,
+            at: _,
+            turns: _,
+        } => Task::Idle,
     }
+}
+
+// The register after the turn of a record: an update that is ready writes it.
+pub fn written(n: usize, p: Process) -> Register
+    requires { ⌜ (n ≤ 8) × (p .register .seq < 4294967295) ⌝ }
+    ensures { λ x. ⌜ x ≡ writtenBy n p (p .task) ⌝ }
+{
+    let k = p.task;
+    let old = p.register;
+    let view = p.view;
+    match k {
+        Task::Idle => old,
+        Task::Scan { turns: _ } => old,
+        Task::Update { word: _, turns: _ } => old,
+        Task::Ready { word, at, turns: _ } => {
+            let r = Register {
+                word,
+                seq: old.seq + 1,
+                view,
+                at,
+            };
+            arrays::lay(n, r, old)
+        }
+    }
+}
+
+// No task.
+pub fn idle() -> Task
+    ensures { λ k. ⌜ k ≡ Idle ⌝ }
+{
+    Task::Idle
 }
 
 // The answer of a turn that found f.
@@ -364,18 +367,4 @@ pub fn lay_page(n: usize, k: Task, f: Find, page: &mut [u32])
             turns: _,
         } => {}
     }
-}
-
-// The task of an update that has had no turn.
-pub fn new_update(word: u32) -> Task
-    ensures { λ k. ⌜ k ≡ Update word 0 ⌝ }
-{
-    Task::Update { word, turns: 0 }
-}
-
-// The task of a scan that has had no turn.
-pub fn new_scan() -> Task
-    ensures { λ k. ⌜ k ≡ Scan 0 ⌝ }
-{
-    Task::Scan { turns: 0 }
 }

@@ -10,7 +10,6 @@ use Rattle.day_runner.proofs.main.Lts as lts
 use Rattle.day_runner.proofs.pass.Reads as pass-reads
 use Rattle.day_runner.proofs.records.start.Reads as start-reads
 use Rattle.io.proofs.large_buffer.Reads as large-buffer-reads
-use Rattle.unbounded.proofs.memory.blank.Reads as blank-reads
 
 abbrev Inv-loop : tie.InvT-loop
 Inv-loop bytes₀ out₀ ran₀ passes₀ bytes out ran passes = Within (ran .place .input) (length bytes) × (65536 ≡ length bytes) × (65536 ≡ length out)
@@ -26,10 +25,6 @@ large-buffer-requires c κs = tt
 large-buffer-requires-2 : tie.Need-large-buffer-requires-2 Inv-loop μ-loop
 large-buffer-requires-2 c κs = tt
 
--- src/main.rt:40:34
-blank-requires : tie.Need-blank-requires Inv-loop μ-loop
-blank-requires c κs = tt
-
 -- src/main.rt:40:9
 start-requires : tie.Need-start-requires Inv-loop μ-loop
 start-requires c κs = tt
@@ -38,8 +33,8 @@ start-requires c κs = tt
 loop-holds : tie.Need-loop-holds Inv-loop μ-loop
 loop-holds c = (
   record { start = c .start .ensures .start; stop = let s = c .start .ensures .stop in omega arith },
-  c .before .before .before .large-buffer .ensures,
-  c .before .before .large-buffer2 .ensures,
+  c .before .before .large-buffer .ensures,
+  c .before .large-buffer2 .ensures,
 )
 
 -- src/main.rt:43:25
@@ -82,7 +77,6 @@ main-spec =
     μ-loop
     large-buffer-requires
     large-buffer-requires-2
-    blank-requires
     start-requires
     loop-holds
     slice-aggregate-pass

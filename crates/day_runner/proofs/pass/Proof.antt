@@ -22,9 +22,11 @@ refill-requires c κs = search needs
 refilled-requires : tie.Need-refilled-requires
 refilled-requires c κs = search needs
 
--- src/main.rt:28:9
+slice-aggregate-run : tie.Need-slice-aggregate-run
+slice-aggregate-run c = search needs
+
 run-requires : tie.Need-run-requires
-run-requires c κs = subst (λ i. Within i (length (c .before .before .before .before .before .refill .last .1 .0))) (sym (c .before .before .refilled .ensures)) (c .before .before .before .before .before .refill .ensures)
+run-requires c κs = subst (λ i. Within i (length (c .before .before .before .before .before .before .refill .last .1 .0))) (sym (c .before .before .before .refilled .ensures)) (c .before .before .before .before .before .before .refill .ensures)
 
 -- src/main.rt:29:8
 is-waiting-requires : tie.Need-is-waiting-requires
@@ -60,7 +62,7 @@ same-length-4 c = search needs
 
 -- src/main.rt:22:1
 returns-2 : tie.Need-returns-2
-returns-2 c = subst (λ i. Within i (length (c .before .before .before .before .before .before .before .before .before .before .before .before .before .refill .last .1 .0))) (sym (c .flushed .ensures)) (c .before .before .before .before .before .before .before .run .ensures)
+returns-2 c = subst (λ i. Within i (length (c .before .before .before .before .before .before .before .before .before .before .before .before .before .before .before .refill .last .1 .0))) (sym (c .flushed .ensures)) (c .before .before .before .before .before .before .before .before .run .ensures)
 
 pub pass-spec : {M : Type 1} → statement M
 pass-spec =
@@ -68,6 +70,7 @@ pass-spec =
     (tie.spec
     refill-requires
     refilled-requires
+    slice-aggregate-run
     run-requires
     is-waiting-requires
     same-length

@@ -1,24 +1,46 @@
--- `dayfile::length_of` meets its contract: past the table there is no kind, within it the table is the definition's.
-use mathlib.Core.Path.{sym}
-use lib.ListN.{List·getD-eq-default}
-use borrow.Author.Needs.{needs}
-use Rattle.dayfile.specs.Layout.{lengths, lengthOf}
+-- `dayfile::length_of` meets its contract.
+use Prim.Native.Nat.{ℕ, zero, suc}
+use mathlib.Core.Path.{_≡_, refl, sym, ap}
+use mathlib.Core.Logic.{_≢_}
+use Rattle.dayfile.specs.Layout.{lengthOf}
 use Rattle.dayfile.proofs.length_of.Statement.{statement}
 use Rattle.dayfile.proofs.length_of.Tie as tie
+use Rattle.dayfile.proofs.length_of.Reads as reads
+use Rattle.dayfile.proofs.length_of.Lts as lts
 
+-- any other kind has no length
+unknown : (kind : ℕ) → kind ≢ 1 → kind ≢ 2 → kind ≢ 3 → kind ≢ 4 → 0 ≡ lengthOf kind
+unfolding lengthOf
+unknown zero a b c d = refl
+unknown (suc zero) a b c d = absurd (a refl)
+unknown (suc (suc zero)) a b c d = absurd (b refl)
+unknown (suc (suc (suc zero))) a b c d = absurd (c refl)
+unknown (suc (suc (suc (suc zero)))) a b c d = absurd (d refl)
+unknown (suc (suc (suc (suc (suc k))))) a b c d = refl
+
+-- src/lib.rt:35:1
 returns : tie.Need-returns
 unfolding lengthOf
-returns c = sym (List·getD-eq-default lengths 0 (c .if1 .taken))
+returns c = sym (ap lengthOf (c .match .keys1))
 
-mul-result : tie.Need-mul-result
-mul-result c = search needs
-
-array-read-result : tie.Need-array-read-result
-array-read-result c = search needs
-
+-- src/lib.rt:35:1
 returns-2 : tie.Need-returns-2
 unfolding lengthOf
-returns-2 c = search needs
+returns-2 c = sym (ap lengthOf (c .match .keys2))
+
+-- src/lib.rt:35:1
+returns-3 : tie.Need-returns-3
+unfolding lengthOf
+returns-3 c = sym (ap lengthOf (c .match .keys3))
+
+-- src/lib.rt:35:1
+returns-4 : tie.Need-returns-4
+unfolding lengthOf
+returns-4 c = sym (ap lengthOf (c .match .keys4))
+
+-- src/lib.rt:35:1
+returns-5 : tie.Need-returns-5
+returns-5 c = let n = c .match .rest in unknown _ (n .0 .0 .0 .1) (n .0 .0 .1) (n .0 .1) (n .1)
 
 pub length-of-spec : {M : Type 1} → statement M
-length-of-spec = tie.close (tie.spec returns mul-result array-read-result returns-2)
+length-of-spec = tie.close (tie.spec returns returns-2 returns-3 returns-4 returns-5)

@@ -3,7 +3,7 @@ use mathlib.Core.Path.{ap, ap₂}
 use native.Mathlib.Omega.{arith}
 use borrow.Author.Needs.{needs}
 use borrow.Author.Tests.{ne-eqb}
-use Rattle.dayfile.specs.declared.Record.the-variants.{Open, Update, Scan, Turn}
+use Rattle.snapshot.specs.declared.Request.the-variants.{Open, Update, Scan, Turn}
 use Rattle.dayfile.specs.Layout.{lengthOf}
 use Rattle.dayfile.specs.Reader.{recordOf}
 use Rattle.dayfile.proofs.record_of.Statement.{statement}

@@ -1,15 +1,22 @@
+-- `daytext::lines::page` meets its contract: the parts, as they are laid, are the text of a page.
 use Prim.Native.Nat.{ℕ}
 use native.Mathlib.Omega.{arith}
 use mathlib.Core.Path.{_≡_}
 use mathlib.Core.List.{List, _++_, map, append-assoc}
-use borrow.Author.Needs.{needs}
 use Rattle.daytext.specs.declared.Line.the-variants.{Page}
 use Rattle.daytext.specs.Ascii.{ascii}
 use Rattle.daytext.specs.Decimal.{decimal}
 use Rattle.daytext.specs.Lines.{spaced, bodyOf}
 use Rattle.daytext.proofs.Laying.{in-turn, laid-as}
+use borrow.Author.Needs.{needs}
 use Rattle.daytext.proofs.lines.page.Statement.{statement}
 use Rattle.daytext.proofs.lines.page.Tie as tie
+use Rattle.daytext.proofs.lines.page.Reads as reads
+use Rattle.daytext.proofs.lines.page.Lts as lts
+use Rattle.daytext.proofs.lines.lent.Reads as lent-reads
+use Rattle.daytext.proofs.put.bytes.Reads as bytes-reads
+use Rattle.daytext.proofs.put.field.Reads as field-reads
+use Rattle.daytext.proofs.put.numbers.Reads as numbers-reads
 
 -- the parts, as they are laid
 page-text : (e p l i t : ℕ) (ws : List ℕ)
@@ -22,36 +29,39 @@ page-text : (e p l i t : ℕ) (ws : List ℕ)
 unfolding bodyOf
 page-text e p l i t ws = simp append-assoc
 
-slice-aggregate-event-with : tie.Need-slice-aggregate-event-with
-slice-aggregate-event-with c = search needs
+-- src/lines.rt:118:9
+lent-requires : tie.Need-lent-requires
+lent-requires c κs = search needs
 
-slice-aggregate-event-with-2 : tie.Need-slice-aggregate-event-with-2
-slice-aggregate-event-with-2 c = search needs
-
-event-with-requires : tie.Need-event-with-requires
-event-with-requires c κs = search needs
-
+-- src/lines.rt:119:19
 slice-aggregate-field : tie.Need-slice-aggregate-field
 slice-aggregate-field c = search needs
 
+-- src/lines.rt:119:9
 field-requires : tie.Need-field-requires
 field-requires c κs = search needs
 
+-- src/lines.rt:120:19
 slice-aggregate-field-2 : tie.Need-slice-aggregate-field-2
 slice-aggregate-field-2 c = search needs
 
+-- src/lines.rt:120:9
 field-requires-2 : tie.Need-field-requires-2
 field-requires-2 c κs = search needs
 
+-- src/lines.rt:121:19
 slice-aggregate-bytes : tie.Need-slice-aggregate-bytes
 slice-aggregate-bytes c = search needs
 
+-- src/lines.rt:121:9
 bytes-requires : tie.Need-bytes-requires
 bytes-requires c κs = search needs
 
+-- src/lines.rt:122:5
 numbers-requires : tie.Need-numbers-requires
 numbers-requires c κs = search needs
 
+-- src/lines.rt:101:1
 same-length : tie.Need-same-length
 same-length c = search needs
 
@@ -69,12 +79,12 @@ module _ (c : tie.After-slice-known6) where
   abbrev at-instant : tie.After-field
   at-instant = at-turns .before .before .before .before .before
 
-  abbrev at-lender : tie.After-event-with
+  abbrev at-lender : tie.After-lent
   at-lender = at-instant .before .before .before .before .before
 
 returns : tie.Need-returns
 returns c =
-    let instant = in-turn (omega arith) (at-lender c .event-with .ensures .0) (at-instant c .field .ensures .0) in
+    let instant = in-turn (omega arith) (at-lender c .lent .ensures .0) (at-instant c .field .ensures .0) in
     let turns = in-turn (omega arith) instant (at-turns c .field2 .ensures .0) in
     let words = in-turn (omega arith) turns (at-words c .bytes .ensures) in
     (laid-as (page-text _ _ _ _ _ _) (in-turn (omega arith) words (at-numbers c .numbers .ensures .0)), search needs)
@@ -83,9 +93,7 @@ pub page-spec : {M : Type 1} → statement M
 page-spec =
     tie.close
     (tie.spec
-    slice-aggregate-event-with
-    slice-aggregate-event-with-2
-    event-with-requires
+    lent-requires
     slice-aggregate-field
     field-requires
     slice-aggregate-field-2

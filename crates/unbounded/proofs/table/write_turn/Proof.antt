@@ -56,9 +56,9 @@ use Rattle.unbounded.proofs.checks.count_of.Met as g₁-thm
 use Rattle.unbounded.proofs.checks.next_event as g₂
 use Rattle.unbounded.proofs.checks.next_event.Symbol as g₂-def
 use Rattle.unbounded.proofs.checks.next_event.Met as g₂-thm
-use Rattle.unbounded.proofs.checks.no_read as g₃
-use Rattle.unbounded.proofs.checks.no_read.Symbol as g₃-def
-use Rattle.unbounded.proofs.checks.no_read.Met as g₃-thm
+use Rattle.unbounded.proofs.arrays.zero as g₃
+use Rattle.unbounded.proofs.arrays.zero.Symbol as g₃-def
+use Rattle.unbounded.proofs.arrays.zero.Met as g₃-thm
 use Rattle.unbounded.proofs.turns.nothing as g₄
 use Rattle.unbounded.proofs.turns.nothing.Symbol as g₄-def
 use Rattle.unbounded.proofs.turns.nothing.Met as g₄-thm
@@ -202,7 +202,7 @@ write-turn-spec 𝓤 H 𝓜 𝓖 𝓡 =
     (meets 𝓤 H (𝓖 .A) (givenOf 𝓤 H 𝓜 𝓖) (𝓜 .mem) (𝓡 .run) (tablesOf 𝓤 H 𝓜 (tables 𝓤 H 𝓜 𝓡 code.env)) (
       cited 𝓤 H (G₁ 𝓤 H (𝓖 .A) (𝓜 .mem) (𝓡 .run)) 𝓜 𝓡 code.env g₁-def.name g₁-def.routine code.calls-unbounded·checks·count-of (g₁-thm.met 𝓤 H 𝓜 𝓖 𝓡),
       cited 𝓤 H (G₂ 𝓤 H (𝓖 .A) (𝓜 .mem) (𝓡 .run)) 𝓜 𝓡 code.env g₂-def.name g₂-def.routine code.calls-unbounded·checks·next-event (g₂-thm.met 𝓤 H 𝓜 𝓖 𝓡),
-      cited 𝓤 H (G₃ 𝓤 H (𝓖 .A) (𝓜 .mem) (𝓡 .run)) 𝓜 𝓡 code.env g₃-def.name g₃-def.routine code.calls-unbounded·checks·no-read (g₃-thm.met 𝓤 H 𝓜 𝓖 𝓡),
+      cited 𝓤 H (G₃ 𝓤 H (𝓖 .A) (𝓜 .mem) (𝓡 .run)) 𝓜 𝓡 code.env g₃-def.name g₃-def.routine code.calls-unbounded·arrays·zero (g₃-thm.met 𝓤 H 𝓜 𝓖 𝓡),
       cited 𝓤 H (G₄ 𝓤 H (𝓖 .A) (𝓜 .mem) (𝓡 .run)) 𝓜 𝓡 code.env g₄-def.name g₄-def.routine code.calls-unbounded·turns·nothing (g₄-thm.met 𝓤 H 𝓜 𝓖 𝓡),
       cited 𝓤 H (G₅ 𝓤 H (𝓖 .A) (𝓜 .mem) (𝓡 .run)) 𝓜 𝓡 code.env g₅-def.name g₅-def.routine code.calls-unbounded·table·turn-at (g₅-thm.met 𝓤 H 𝓜 𝓖 𝓡),
       cited 𝓤 H (G₆ 𝓤 H (𝓖 .A) (𝓜 .mem) (𝓡 .run)) 𝓜 𝓡 code.env g₆-def.name g₆-def.routine code.calls-unbounded·turns·answer (g₆-thm.met 𝓤 H 𝓜 𝓖 𝓡),

@@ -1,33 +1,35 @@
 -- `unbounded::turns::find_page` meets its contract: a decision falls only at the end of a double collect.
-use mathlib.Core.Path.{sym, ap, _∙_}
+use mathlib.Core.Path.{_≡_, sym, ap, _∙_}
+use Prim.Native.Nat.{_+_, _-_}
 use native.Mathlib.Omega.{arith}
-use Rattle.unbounded.specs.Registers.{ascending, differs, lends}
+use lib.ListN.{set}
+use Rattle.unbounded.specs.Registers.{ascending, readInto, differs, lends}
 use Rattle.unbounded.specs.Turns.{firstAfter, secondAfter, endAfter}
 use Rattle.unbounded.specs.Steps.{decisionFind, verdictFind, findOf}
 use Rattle.snapshot.specs.Verdict.{verdict}
-use Rattle.unbounded.proofs.Reading.{first-waits, end-waits, decision-waits, decision-falls}
+use Rattle.unbounded.proofs.Reading.{first-waits, second-reads, end-waits, decision-waits, decision-falls}
 use borrow.Author.Needs.{needs}
 use Rattle.unbounded.proofs.turns.find_page.Statement.{statement}
 use Rattle.unbounded.proofs.turns.find_page.Tie as tie
 use Rattle.unbounded.proofs.turns.find_page.Reads as reads
 use Rattle.unbounded.proofs.turns.find_page.Lts as lts
+use Rattle.unbounded.proofs.arrays.lay.Reads as lay-reads
 use Rattle.unbounded.proofs.turns.decide.Reads as decide-reads
 use Rattle.unbounded.proofs.turns.nothing.Reads as nothing-reads
-use Rattle.unbounded.proofs.turns.read_second.Reads as read-second-reads
 
--- src/turns.rt:101:8
+-- src/turns.rt:71:8
 add-if1 : tie.Need-add-if1
 add-if1 c = search needs
 
--- src/turns.rt:101:19
+-- src/turns.rt:71:19
 mul-if1 : tie.Need-mul-if1
 mul-if1 c = search needs
 
--- src/turns.rt:102:9
+-- src/turns.rt:72:9
 nothing-requires : tie.Need-nothing-requires
 nothing-requires c κs = search needs
 
--- src/turns.rt:102:9
+-- src/turns.rt:72:9
 returns : tie.Need-returns
 unfolding findOf
 returns c =
@@ -38,25 +40,49 @@ returns c =
     ∙ sym (ap (decisionFind (a .n) (endAfter (a .n) (a .pos) (a .now) (a .p .«first_end»)) y)
     (decision-waits (a .n) ascending (a .pos) x y (a .p .moved) (c .before .if1 .taken)))
 
--- src/turns.rt:107:9
-read-second-requires : tie.Need-read-second-requires
-read-second-requires c κs = search needs
+-- src/turns.rt:77:13
+sub-i : tie.Need-sub-i
+sub-i c = search needs
 
--- src/turns.rt:108:5
+-- src/turns.rt:78:15
+mul-old : tie.Need-mul-old
+mul-old c = search needs
+
+-- src/turns.rt:78:15
+array-copy-out-old : tie.Need-array-copy-out-old
+array-copy-out-old c = search needs
+
+-- src/turns.rt:79:12
+lay-requires : tie.Need-lay-requires
+lay-requires c κs = search needs
+
+-- src/turns.rt:79:5
+mul-b : tie.Need-mul-b
+mul-b c = search needs
+
+-- src/turns.rt:79:5
+array-set-from-b : tie.Need-array-set-from-b
+array-set-from-b c = search needs
+
+-- src/turns.rt:80:5
 decide-requires : tie.Need-decide-requires
 decide-requires c κs = search needs
 
--- src/turns.rt:97:1
+-- src/turns.rt:67:1
 returns-2 : tie.Need-returns-2
-unfolding findOf
+unfolding findOf readInto
 returns-2 c =
-    let a = c .before .before .before .before .before .before .args in
+    let start = c .before .before .before .before .before .before .before in
+    let a = start .args in
     let p = a .p in
+    let i = a .pos - a .n in
     let x = firstAfter (a .n) (a .pos) (a .r) (p .first) in
     let y = secondAfter (a .n) (a .pos) (a .r) (p .second) in
-    let last = c .before .before .before .before .before .if1 .left in
+    let last = c .before .before .before .before .before .before .if1 .left in
+    let back : a .n + i ≡ a .pos = omega arith in
     c .decide .ensures
-    ∙ ap (λ b. verdictFind (a .n) (p .«first_end») b (verdict (a .n) (differs ascending (p .first) b) (lends ascending (p .first) b (p .moved)))) (c .before .read-second .ensures)
+    ∙ ap (λ b. verdictFind (a .n) (p .«first_end») b (verdict (a .n) (differs ascending (p .first) b) (lends ascending (p .first) b (p .moved))))
+    (ap (set (p .second) i) (c .before .lay .ensures) ∙ sym (second-reads (a .n) (a .r) i (p .second)) ∙ ap (λ k. secondAfter (a .n) k (a .r) (p .second)) back)
     ∙ ap (λ z. verdictFind (a .n) (p .«first_end») y (verdict (a .n) (differs ascending z y) (lends ascending z y (p .moved)))) (sym (first-waits (a .n) (a .r) (a .pos) (p .first) (omega arith)))
     ∙ ap (λ e. verdictFind (a .n) e y (verdict (a .n) (differs ascending x y) (lends ascending x y (p .moved)))) (sym (end-waits (a .n) (a .pos) (a .now) (p .«first_end») (λ q. omega arith)))
     ∙ sym (ap (decisionFind (a .n) (endAfter (a .n) (a .pos) (a .now) (p .«first_end»)) y) (decision-falls (a .n) ascending (a .pos) x y (p .moved) last))
@@ -69,6 +95,11 @@ find-page-spec =
     mul-if1
     nothing-requires
     returns
-    read-second-requires
+    sub-i
+    mul-old
+    array-copy-out-old
+    lay-requires
+    mul-b
+    array-set-from-b
     decide-requires
     returns-2)

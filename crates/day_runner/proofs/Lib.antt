@@ -1,0 +1,2 @@
+-- What the runner's walks share.
+pub mod Lending

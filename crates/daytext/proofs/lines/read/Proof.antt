@@ -1,0 +1,40 @@
+-- `daytext::lines::read` meets its contract: the parts, as they are laid, are the line's text.
+use mathlib.Core.List.{append-nil}
+use native.Mathlib.Omega.{arith}
+use Rattle.daytext.specs.Lines.{bodyOf}
+use Rattle.daytext.proofs.Laying.{in-turn}
+use borrow.Author.Needs.{needs}
+use Rattle.daytext.proofs.lines.read.Statement.{statement}
+use Rattle.daytext.proofs.lines.read.Tie as tie
+use Rattle.daytext.proofs.lines.read.Reads as reads
+use Rattle.daytext.proofs.lines.read.Lts as lts
+use Rattle.daytext.proofs.put.field.Reads as field-reads
+use Rattle.daytext.proofs.put.number.Reads as number-reads
+
+-- src/lines.rt:72:9
+number-requires : tie.Need-number-requires
+number-requires c κs = search needs
+
+-- src/lines.rt:73:11
+slice-aggregate-field : tie.Need-slice-aggregate-field
+slice-aggregate-field c = search needs
+
+-- src/lines.rt:73:5
+field-requires : tie.Need-field-requires
+field-requires c κs = search needs
+
+-- src/lines.rt:67:1
+same-length : tie.Need-same-length
+same-length c = search needs
+
+-- src/lines.rt:67:1
+returns : tie.Need-returns
+unfolding bodyOf
+returns c =
+    let at-field = c .before .before in
+    let at-number = at-field .before .before .before .before .before in
+    (simp append-nil (in-turn (omega arith) (at-number .number .ensures .0) (at-field .field .ensures .0)), search needs)
+
+pub read-spec : {M : Type 1} → statement M
+read-spec =
+    tie.close (tie.spec number-requires slice-aggregate-field field-requires same-length returns)

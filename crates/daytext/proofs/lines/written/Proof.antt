@@ -1,0 +1,60 @@
+-- `daytext::lines::written` meets its contract: the parts, as they are laid, are the line's text.
+use mathlib.Core.List.{append-assoc, append-nil}
+use native.Mathlib.Omega.{arith}
+use Rattle.daytext.specs.Lines.{bodyOf}
+use Rattle.daytext.proofs.Laying.{in-turn}
+use borrow.Author.Needs.{needs}
+use Rattle.daytext.proofs.lines.written.Statement.{statement}
+use Rattle.daytext.proofs.lines.written.Tie as tie
+use Rattle.daytext.proofs.lines.written.Reads as reads
+use Rattle.daytext.proofs.lines.written.Lts as lts
+use Rattle.daytext.proofs.put.field.Reads as field-reads
+use Rattle.daytext.proofs.put.number.Reads as number-reads
+
+-- src/lines.rt:81:9
+number-requires : tie.Need-number-requires
+number-requires c κs = search needs
+
+-- src/lines.rt:82:19
+slice-aggregate-field : tie.Need-slice-aggregate-field
+slice-aggregate-field c = search needs
+
+-- src/lines.rt:82:9
+field-requires : tie.Need-field-requires
+field-requires c κs = search needs
+
+-- src/lines.rt:83:11
+slice-aggregate-field-2 : tie.Need-slice-aggregate-field-2
+slice-aggregate-field-2 c = search needs
+
+-- src/lines.rt:83:5
+field-requires-2 : tie.Need-field-requires-2
+field-requires-2 c κs = search needs
+
+-- src/lines.rt:76:1
+same-length : tie.Need-same-length
+same-length c = search needs
+
+-- src/lines.rt:76:1
+returns : tie.Need-returns
+unfolding bodyOf
+returns c =
+    let at-last = c .before .before in
+    let at-field = at-last .before .before .before .before .before in
+    let at-number = at-field .before .before .before .before .before in
+    let first = in-turn (omega arith) (at-number .number .ensures .0) (at-field .field .ensures .0) in
+    let all = in-turn (omega arith) first (at-last .field2 .ensures .0) in
+    let text = simp append-assoc at all in
+    (simp append-nil text, search needs)
+
+pub written-spec : {M : Type 1} → statement M
+written-spec =
+    tie.close
+    (tie.spec
+    number-requires
+    slice-aggregate-field
+    field-requires
+    slice-aggregate-field-2
+    field-requires-2
+    same-length
+    returns)

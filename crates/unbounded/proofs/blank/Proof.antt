@@ -1,0 +1,13 @@
+-- `unbounded::blank` meets its contract.
+use borrow.Author.Needs.{needs}
+use Rattle.unbounded.proofs.blank.Statement.{statement}
+use Rattle.unbounded.proofs.blank.Tie as tie
+use Rattle.unbounded.proofs.blank.Reads as reads
+use Rattle.unbounded.proofs.blank.Lts as lts
+
+-- src/lib.rt:42:1
+returns : tie.Need-returns
+returns c = search needs
+
+pub blank-spec : {M : Type 1} → statement M
+blank-spec = tie.close (tie.spec returns)
