@@ -44,10 +44,10 @@ use Rattle.day_runner.proofs.records.Running as R
 use Rattle.day_runner.proofs.records.Running.Laws as R′
 use Rattle.dayfile.proofs.Reading as X
 use Rattle.dayfile.proofs.Reading.Laws as X′
-use Rattle.unbounded.proofs.Walks.{Data}
-use Rattle.unbounded.proofs.PassedOn.{a-day, at-value}
-use Rattle.unbounded.proofs.Passing.{lent-of, owed-of, lends, comes-back}
-use Rattle.unbounded.proofs.LocalTable.{Table, a-table, spelled, table-as}
+use Rattle.memory.proofs.Walks.{Data}
+use Rattle.memory.proofs.PassedOn.{a-day, at-value}
+use Rattle.memory.proofs.Passing.{lent-of, owed-of, lends, comes-back}
+use Rattle.memory.proofs.LocalTable.{Table, a-table, spelled, table-as}
 
 abbrev pub a-place : Data
 a-place = record { row = P.the-row; val = P′.lowered; told = P′.lowers .val-is; made = λ 𝓤 H A W. SL.makes P.the-type P′.the-plain 𝓤 H A; lawful = SL.lawful P.the-type P′.the-laws }

@@ -1,9 +1,9 @@
 // What the runner prints: the line of each record, by its answer, and those of the end.
 use dayfile::Reading;
 use daytext::Line;
+use memory::Outcome;
 use snapshot::Answer;
 use snapshot::Request;
-use unbounded::Outcome;
 ghost use Prim.Native.Nat.{_≤_};
 
 // The line of a call that was accepted with the given event number.

@@ -141,7 +141,7 @@ module _ (M : Method) (O : Owed M) (H : ℕ → M .State) where
           advanced-agrees t a (t .words) d none m p e others own (a .now ∙ sym quiet),
           refl,
         )
-    fits-and-agrees others (updated d c row w turns m q job count ws own) =
+    fits-and-agrees others (updated d c register w turns m q job count ws own) =
         let few = agree-patient t a (d - 1) c q in (
           (
             m,
@@ -150,7 +150,7 @@ module _ (M : Method) (O : Owed M) (H : ℕ → M .State) where
           advanced-agrees t a (putsIf (M .stored (suc (t .event))) (t .words) (callOf t d)) d none m p e others own
               (ap (λ o. putsIf (M .stored (suc (t .event))) (t .words) o) q
               ∙ ap (λ j. puts (M .stored (suc (t .event))) (t .words) j) job
-              ∙ ap (λ l. set l (row - 1) (M .stored (suc (t .event)) w)) (a .now)
+              ∙ ap (λ l. set l (register - 1) (M .stored (suc (t .event)) w)) (a .now)
               ∙ sym ws),
           refl,
         )

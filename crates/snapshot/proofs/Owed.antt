@@ -31,9 +31,9 @@ module _ (M : Method) (Tied : (ℕ → M .State) → ℕ → ℕ → Option Call
       scanned : (d : ℕ) (c : Call) (lender at turns : ℕ) → Among (M .processes) d → open-call (d - 1) ≡ some c →
           c .job ≡ scan → turns ≡ suc (c .turns) → ws ≡ M .words (H at) → c .number < at → at ≤ e → Quiet →
           Tied H (suc e) (d - 1) none → Outcome (turn d) (Page lender at turns)
-      updated : (d : ℕ) (c : Call) (row w turns : ℕ) → Among (M .processes) d → open-call (d - 1) ≡ some c →
-          c .job ≡ update row w → turns ≡ suc (c .turns) →
-          M .words (H (suc e)) ≡ set (M .words (H e)) (row - 1) (M .stored (suc e) w) →
+      updated : (d : ℕ) (c : Call) (register w turns : ℕ) → Among (M .processes) d → open-call (d - 1) ≡ some c →
+          c .job ≡ update register w → turns ≡ suc (c .turns) →
+          M .words (H (suc e)) ≡ set (M .words (H e)) (register - 1) (M .stored (suc e) w) →
           Tied H (suc e) (d - 1) none → Outcome (turn d) (Written turns)
 
 pub record Owed (M : Method) : Type 1 where

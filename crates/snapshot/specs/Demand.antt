@@ -28,11 +28,11 @@ pub record Method : Type 1 where
   -- what the tally sees of an item, and the page list that the item lends
   pub sees : Item → Seen
   pub lent : Item → List ℕ
-  -- what stands in a row, as pages show it; what it is once event e has written a word; and what a page list shows
+  -- what stands in a register, as pages show it; what it is once event e has written a word; and what a page list shows
   pub Value : Type 0
   pub stored : ℕ → ℕ → Value
   pub shown : List ℕ → List Value
-  -- the event number of a state, and the values in its rows
+  -- the event number of a state, and the values in its registers
   pub event : State → ℕ
   pub words : State → List Value
   -- the number of processes, and the most accepted turns of a job
@@ -81,7 +81,7 @@ PageFits most t at turns ws (some c) =
 
 abbrev pub IsUpdate : Job → Type 0
 IsUpdate scan = ⊥
-IsUpdate (update row w) = Unit {0}
+IsUpdate (update register w) = Unit {0}
 
 -- "an answer finds one of its own kind"
 abbrev pub WrittenFits : (Job → ℕ) → ℕ → Option Call → Type 0

@@ -7,12 +7,12 @@ use lib.ListN.{getD, set, replicate}
 use Rattle.snapshot.specs.declared.Answer.{Answer}
 use Rattle.snapshot.specs.declared.Answer.the-variants.{Refused, Opened, Called, Read, Page, Written}
 
--- what a call asks for: a scan (document 01: a page), or an update (document 01: an entry) of one row by one word
+-- what a call asks for: a scan (document 01: a page), or an update (document 01: an entry) of one register by one word
 pub data Job : Type 0 where
   scan : Job
-  update : (row word : ℕ) → Job
+  update : (register word : ℕ) → Job
 
--- of an item its kind, its process and its word if any; processes and rows are numbered from 1
+-- of an item its kind, its process and its word if any; processes and registers are numbered from 1
 pub data Seen : Type 0 where
   opening : Seen
   call : (process : ℕ) → Job → Seen
@@ -30,14 +30,14 @@ pub record Call : Type 0 where
   pub number : ℕ
   pub turns : ℕ
 
--- a number e, a word for each row, the words of every instant up to e, and for each process at most one open call
+-- a number e, a word for each register, the words of every instant up to e, and for each process at most one open call
 pub record Tally (Value : Type 0) : Type 0 where
   pub event : ℕ
   pub words : List Value
   pub instants : List (List Value)
   pub calls : List (Option Call)
 
--- "at first zeros, and none open": n processes, m rows, and the value zero that stands in a row at first
+-- "at first zeros, and none open": n processes, m registers, and the value zero that stands in a register at first
 abbrev pub started : {Value : Type 0} → ℕ → ℕ → Value → Tally Value
 started n m zero =
     record {
@@ -73,10 +73,10 @@ opens e j = record { job = j; number = e; turns = 0 }
 abbrev pub gains : Call → Call
 gains c = record { job = c .job; number = c .number; turns = suc (c .turns) }
 
--- "An entry's answer puts that call's word in the desk's row"; stored e w is what a row holds after w is written by event e
+-- "An entry's answer puts that call's word in the desk's row"; stored e w is what a register holds after w is written by event e
 abbrev pub puts : {Value : Type 0} → (ℕ → Value) → List Value → Job → List Value
 puts stored ws scan = ws
-puts stored ws (update row w) = set ws (row - 1) (stored w)
+puts stored ws (update register w) = set ws (register - 1) (stored w)
 
 abbrev pub putsIf : {Value : Type 0} → (ℕ → Value) → List Value → Option Call → List Value
 putsIf stored ws none = ws

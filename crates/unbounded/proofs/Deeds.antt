@@ -113,21 +113,21 @@ module _ (n : ℕ) (o : Order) (H : ℕ → State) (open-call : ℕ → Option C
 
     module _ (t : ℕ) (S : Scans n o H e (d - 1) (c .number) t before) where
       abbrev read-now : Register
-      read-now = processAt H (o .row (placeAt n (position n t))) e .register
+      read-now = processAt H (o .register (placeAt n (position n t))) e .register
 
       steps : ((j : ℕ) → registerAt n H j (suc e) ≡ registerAt n H j e) →
           StepsTo t read-now (position n t) (foundBy o n (suc e) (position n t) read-now before)
       unfolding foundBy
-      steps quiet = subst (λ k. StepsTo t (processAt H (o .row (placeAt n k)) e .register) k (foundBy o n (suc e) k (processAt H (o .row (placeAt n k)) e .register) before)) (sym at) (go (scanning-reads n o (registerAt n H) (pageAt H) (omega arith) (A .laws) S P (omega (arith, T .sized .marks)) (λ j. ap (λ r. r .seq) (quiet j)) r full (omega (arith, T .sized .firsts)) (omega (arith, T .sized .seconds)) refl))
+      steps quiet = subst (λ k. StepsTo t (processAt H (o .register (placeAt n k)) e .register) k (foundBy o n (suc e) k (processAt H (o .register (placeAt n k)) e .register) before)) (sym at) (go (scanning-reads n o (registerAt n H) (pageAt H) (omega arith) (A .laws) S P (omega (arith, T .sized .marks)) (λ j. ap (λ r. r .seq) (quiet j)) r full (omega (arith, T .sized .firsts)) (omega (arith, T .sized .seconds)) refl))
         where
           at : position n t ≡ S .pos
           at = position-is n o (registerAt n H) (pageAt H) (omega arith) (A .laws) S
 
           r : Register
-          r = processAt H (o .row (placeAt n (S .pos))) e .register
+          r = processAt H (o .register (placeAt n (S .pos))) e .register
 
           full : length (take n (r .view)) ≡ n
-          full = view-full (o .row (placeAt n (S .pos))) (P .row-below (placeAt n (S .pos)) (place-below n (S .pos) (S .low)))
+          full = view-full (o .register (placeAt n (S .pos))) (P .register-below (placeAt n (S .pos)) (place-below n (S .pos) (S .low)))
 
           a : List Register
           a = firstAfter n (S .pos) r (before .first)

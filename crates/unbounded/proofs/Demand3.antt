@@ -287,10 +287,10 @@ module _ (n : ℕ) (o : Order) (P : Permutes n o) (z : 0 < n) (eight : n ≤ 8) 
 ascending-permutes : (n : ℕ) → Permutes n ascending
 ascending-permutes n =
     record {
-      row-below = λ p l. l;
+      register-below = λ p l. l;
       place-below = λ j l. l;
-      row-place = λ j l. refl;
-      place-row = λ p l. refl;
+      register-place = λ j l. refl;
+      place-register = λ p l. refl;
     }
 
 -- demand 3: a day just opened for any n from 1 to 8, and every list of items on it

@@ -48,17 +48,17 @@ module _ (n : ℕ) (o : Order) (P : Permutes n o) where
   Stands x rs = (j : ℕ) → j < n → x j ≡ triple n (collectedAt o rs j)
 
   reads-stand : (x : Array Triple) (rs : List Register) (r : Register) (p : ℕ) → p < n → n ≤ length rs → length (take n (r .view)) ≡ n →
-      Stands x rs → Stands (assigned x (o .row p) (triple n r)) (readInto n r p rs)
+      Stands x rs → Stands (assigned x (o .register p) (triple n r)) (readInto n r p rs)
   reads-stand x rs r p l m full h j b =
-      by-cases (ℕ-discrete j (o .row p))
+      by-cases (ℕ-discrete j (o .register p))
       (λ q.
-      assigned-same x j (o .row p) (triple n r) q
+      assigned-same x j (o .register p) (triple n r) q
       ∙ sym (ap (λ t. record { content = t .word; seq = t .seq; view = t .view })
-      (ap (λ i. trimmed n (getD (readInto n r p rs) i noRegister)) (ap (o .place) q ∙ P .place-row p l) ∙ read-into-same n r p rs (omega arith) full)))
+      (ap (λ i. trimmed n (getD (readInto n r p rs) i noRegister)) (ap (o .place) q ∙ P .place-register p l) ∙ read-into-same n r p rs (omega arith) full)))
       (λ q.
-      assigned-other x j (o .row p) (triple n r) q
+      assigned-other x j (o .register p) (triple n r) q
       ∙ h j b
-      ∙ sym (ap (triple n) (read-into-other n r p rs (o .place j) (λ w. q (sym (P .row-place j b) ∙ ap (o .row) w)))))
+      ∙ sym (ap (triple n) (read-into-other n r p rs (o .place j) (λ w. q (sym (P .register-place j b) ∙ ap (o .register) w)))))
 
   -- line 5: the words of the second collect
   shown-each : (x : Array Triple) (rs : List Register) → Stands x rs → each n (λ j. x j .content) ≡ shown o n rs
@@ -203,9 +203,9 @@ turns-of : (K : Kind) (t : ℕ) → turnsOf (taskOf K t) ≡ t
 turns-of page t = refl
 turns-of (entry w) t = refl
 
-reads-of : (o : Order) (n : ℕ) (K : Kind) (t pos place : ℕ) → position n t ≡ pos → placeAt n pos ≡ place → reads o n (taskOf K t) ≡ some (o .row place)
-reads-of o n page t pos place q r = ap {B = Option ℕ} (λ k. some (o .row k)) (ap (placeAt n) q ∙ r)
-reads-of o n (entry w) t pos place q r = ap {B = Option ℕ} (λ k. some (o .row k)) (ap (placeAt n) q ∙ r)
+reads-of : (o : Order) (n : ℕ) (K : Kind) (t pos place : ℕ) → position n t ≡ pos → placeAt n pos ≡ place → reads o n (taskOf K t) ≡ some (o .register place)
+reads-of o n page t pos place q r = ap {B = Option ℕ} (λ k. some (o .register k)) (ap (placeAt n) q ∙ r)
+reads-of o n (entry w) t pos place q r = ap {B = Option ℕ} (λ k. some (o .register k)) (ap (placeAt n) q ∙ r)
 
 -- what the procedure does with the words that its scan returns, by a process whose register's seq is s
 abbrev finishOf : Kind → ℕ → ℕ → List ℕ → Procedure
@@ -349,30 +349,30 @@ module _ (n : ℕ) (o : Order) (P : Permutes n o) (z : 0 < n) (eight : n ≤ 8) 
           seq = A .seq;
         }
 
-    at-first : (q : ℕ) → q < n → At (afterRead o n now q r p (taskOf K (t + 1)) (p .view)) (suc t) (record { moved = moved; a = assigned x (o .row q) (triple n r); b = y })
+    at-first : (q : ℕ) → q < n → At (afterRead o n now q r p (taskOf K (t + 1)) (p .view)) (suc t) (record { moved = moved; a = assigned x (o .register q) (triple n r); b = y })
     at-first q l =
-        at-onward q (assigned x (o .row q) (triple n r)) y (λ w. omega arith)
-        (subst (λ rs. Stands n o P (assigned x (o .row q) (triple n r)) rs) (sym (first-reads n r q (p .first) l))
+        at-onward q (assigned x (o .register q) (triple n r)) y (λ w. omega arith)
+        (subst (λ rs. Stands n o P (assigned x (o .register q) (triple n r)) rs) (sym (first-reads n r q (p .first) l))
         (reads-stand n o P x (p .first) r q l (omega (arith, A .sized .firsts)) (view-full r full) (A .holds .a)))
         (subst (λ rs. Stands n o P y rs) (sym (second-waits n r q (p .second) l)) (A .holds .b))
         (A .wide)
 
-    stands-second : (q : ℕ) → q < n → Stands n o P (assigned y (o .row q) (triple n r)) (secondAfter n (n + q) r (p .second))
+    stands-second : (q : ℕ) → q < n → Stands n o P (assigned y (o .register q) (triple n r)) (secondAfter n (n + q) r (p .second))
     stands-second q l =
-        subst (λ rs. Stands n o P (assigned y (o .row q) (triple n r)) rs) (sym (second-reads n r q (p .second)))
+        subst (λ rs. Stands n o P (assigned y (o .register q) (triple n r)) rs) (sym (second-reads n r q (p .second)))
         (reads-stand n o P y (p .second) r q l (omega (arith, A .sized .seconds)) (view-full r full) (A .holds .b))
 
     stands-first : (q : ℕ) → Stands n o P x (firstAfter n (n + q) r (p .first))
     stands-first q = subst (λ rs. Stands n o P x rs) (sym (first-waits n r (n + q) (p .first) (omega arith))) (A .holds .a)
 
-    wide-second : (q j : ℕ) → j < n → length (assigned y (o .row q) (triple n r) j .view) ≡ n
+    wide-second : (q j : ℕ) → j < n → length (assigned y (o .register q) (triple n r) j .view) ≡ n
     wide-second q j l =
-        by-cases (ℕ-discrete j (o .row q))
-        (λ e. ap (λ u. length (u .view)) (assigned-same y j (o .row q) (triple n r) e) ∙ view-full r full)
-        (λ e. ap (λ u. length (u .view)) (assigned-other y j (o .row q) (triple n r) e) ∙ A .wide j l)
+        by-cases (ℕ-discrete j (o .register q))
+        (λ e. ap (λ u. length (u .view)) (assigned-same y j (o .register q) (triple n r) e) ∙ view-full r full)
+        (λ e. ap (λ u. length (u .view)) (assigned-other y j (o .register q) (triple n r) e) ∙ A .wide j l)
 
-    at-second : (q : ℕ) → q + 1 < n → At (afterRead o n now (n + q) r p (taskOf K (t + 1)) (p .view)) (suc t) (record { moved = moved; a = x; b = assigned y (o .row q) (triple n r) })
-    at-second q l = at-onward (n + q) x (assigned y (o .row q) (triple n r)) (λ w. omega arith) (stands-first q) (stands-second q (omega arith)) (wide-second q)
+    at-second : (q : ℕ) → q + 1 < n → At (afterRead o n now (n + q) r p (taskOf K (t + 1)) (p .view)) (suc t) (record { moved = moved; a = x; b = assigned y (o .register q) (triple n r) })
+    at-second q l = at-onward (n + q) x (assigned y (o .register q) (triple n r)) (λ w. omega arith) (stands-first q) (stands-second q (omega arith)) (wide-second q)
 
     onwards : (pg : List ℕ) (pos : ℕ) → position n t ≡ pos → pos + 1 ≢ 2 * n →
         (k q : ℕ) (v : Array Triple → Variables) (w : Array Triple) (next : Array Triple → Procedure) →
@@ -394,7 +394,7 @@ module _ (n : ℕ) (o : Order) (P : Permutes n o) (z : 0 < n) (eight : n ≤ 8) 
       c′ = secondAfter n (n + q) r (p .second)
 
       y′ : Array Triple
-      y′ = assigned y (o .row q) (triple n r)
+      y′ = assigned y (o .register q) (triple n r)
 
       end′ : ℕ
       end′ = endAfter n (n + q) now (p .«first_end»)
@@ -498,15 +498,15 @@ module _ (n : ℕ) (o : Order) (P : Permutes n o) (z : 0 < n) (eight : n ≤ 8) 
     ap turnsOf (A .task) ∙ turns-of K t,
     ap (reads o n) (A .task) ∙ reads-of o n K t (n + q) q (position-of m (n + q) t c (omega arith)) (place-second n q),
     (λ now r pg full. ending now r full p t moved x y A pg q m (omega arith) c f
-        (λ mv p′ A′. rest (suc t) mv x (assigned y (o .row q) (triple n r)) p′ (omega arith) A′)),
+        (λ mv p′ A′. rest (suc t) mv x (assigned y (o .register q) (triple n r)) p′ (omega arith) A′)),
   )
   second-does f m (suc k) q l rest t moved x y p c A = (
     A .holds,
     ap turnsOf (A .task) ∙ turns-of K t,
     ap (reads o n) (A .task) ∙ reads-of o n K t (n + q) q (position-of m (n + q) t c (omega arith)) (place-second n q),
     (λ now r pg full. onwards now r full p t moved x y A pg (n + q) (position-of m (n + q) t c (omega arith)) (λ w. omega arith)
-        k (suc q) (λ b. record { moved = moved; a = x; b = b }) (assigned y (o .row q) (triple n r)) (closing f moved x)
-        (second-does f m k (suc q) (omega arith) rest (suc t) moved x (assigned y (o .row q) (triple n r))
+        k (suc q) (λ b. record { moved = moved; a = x; b = b }) (assigned y (o .register q) (triple n r)) (closing f moved x)
+        (second-does f m k (suc q) (omega arith) rest (suc t) moved x (assigned y (o .register q) (triple n r))
         (afterRead o n now (n + q) r p (taskOf K (t + 1)) (p .view)) (omega arith) (at-second now r full p t moved x y A q (omega arith)))),
   )
 
@@ -525,7 +525,7 @@ module _ (n : ℕ) (o : Order) (P : Permutes n o) (z : 0 < n) (eight : n ≤ 8) 
     ap turnsOf (A .task) ∙ turns-of K t,
     ap (reads o n) (A .task) ∙ reads-of o n K t q q (position-of m q t c (omega arith)) (place-first n q (omega arith)),
     (λ now r pg full.
-        let x′ : Array Triple = assigned x (o .row q) (triple n r) in
+        let x′ : Array Triple = assigned x (o .register q) (triple n r) in
         let hold : Array Triple → Variables = λ b. record { moved = moved; a = x′; b = b } in
         subst (λ k. After o n (Does o n (collect o k 0 hold y (closing f moved x′)) (suc t)) (suc t) p pg (turned o n now r pg p) (collect o k 0 hold y (closing f moved x′)))
         (suc-is l)
@@ -541,8 +541,8 @@ module _ (n : ℕ) (o : Order) (P : Permutes n o) (z : 0 < n) (eight : n ≤ 8) 
     ap turnsOf (A .task) ∙ turns-of K t,
     ap (reads o n) (A .task) ∙ reads-of o n K t q q (position-of m q t c (omega arith)) (place-first n q (omega arith)),
     (λ now r pg full. onwards now r full p t moved x y A pg q (position-of m q t c (omega arith)) (λ w. omega arith)
-        k (suc q) (λ a. record { moved = moved; a = a; b = y }) (assigned x (o .row q) (triple n r)) (after-first f moved y)
-        (first-does f m k (suc q) (omega arith) rest (suc t) moved (assigned x (o .row q) (triple n r)) y
+        k (suc q) (λ a. record { moved = moved; a = a; b = y }) (assigned x (o .register q) (triple n r)) (after-first f moved y)
+        (first-does f m k (suc q) (omega arith) rest (suc t) moved (assigned x (o .register q) (triple n r)) y
         (afterRead o n now q r p (taskOf K (t + 1)) (p .view)) (omega arith) (at-first now r full p t moved x y A q (omega arith)))),
   )
 

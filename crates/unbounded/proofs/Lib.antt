@@ -1,11 +1,4 @@
 -- Theorems about Figure 3's method.
-pub mod Walks
-pub mod Fields
-pub mod Loans
-pub mod PassedOn
-pub mod Checked
-pub mod Passing
-pub mod Stepping
 pub mod Limits
 pub mod Marks
 pub mod Places
@@ -18,7 +11,3 @@ pub mod Deeds
 pub mod Demand3
 pub mod MarkedDays
 pub mod Figure3
-pub mod Steps
-pub mod Tables
-pub mod Requested
-pub mod LocalTable

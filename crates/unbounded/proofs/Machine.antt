@@ -55,9 +55,9 @@ module _ (n : ℕ) (o : Order) (H : ℕ → State) where
 
   -- ---- what ties a record to its open call
 
-  -- an update of its own row
+  -- an update of its own register
   abbrev pub Owns : ℕ → ℕ → Job → Type 0
-  Owns i w j = (row : ℕ) × (row - 1 ≡ i) × (j ≡ update row w)
+  Owns i w j = (register : ℕ) × (register - 1 ≡ i) × (j ≡ update register w)
 
   -- the scan of process i, begun at instant s, with t turns, as record p has it at instant e
   abbrev pub Scans : (e i s t : ℕ) → Process → Type 0

@@ -164,7 +164,7 @@ module _ (n : ℕ) (o : Order) (R : ℕ → ℕ → Register) (page : ℕ → Li
       ended-by _ (goes-on j l d h) = inl (refl, next-round j l d h)
 
     pub scanning-reads : (r : Register) → length (take n (r .view)) ≡ n → n ≤ length a → n ≤ length c →
-        trimmed n r ≡ R (o .row (placeAt n (S .pos))) e →
+        trimmed n r ≡ R (o .register (placeAt n (S .pos))) e →
         let a′ = firstAfter n (S .pos) r a in
         let c′ = secondAfter n (S .pos) r c in
         Stepped i s a′ c′ (endAfter n (S .pos) (suc e) end) ms t e (decision o n (S .pos) a′ c′ ms)

@@ -21,10 +21,10 @@ use Rattle.unbounded.proofs.Reading.{place-first, place-second, first-r
 
 -- an order of reading n registers: a permutation of the first n numbers, with its inverse
 pub record Permutes (n : ℕ) (o : Order) : Type 0 where
-  pub row-below : (p : ℕ) → p < n → o .row p < n
+  pub register-below : (p : ℕ) → p < n → o .register p < n
   pub place-below : (j : ℕ) → j < n → o .place j < n
-  pub row-place : (j : ℕ) → j < n → o .row (o .place j) ≡ j
-  pub place-row : (p : ℕ) → p < n → o .place (o .row p) ≡ p
+  pub register-place : (j : ℕ) → j < n → o .register (o .place j) ≡ j
+  pub place-register : (p : ℕ) → p < n → o .place (o .register p) ≡ p
 
 module _ (n : ℕ) (o : Order) (R : ℕ → ℕ → Register) (page : ℕ → List ℕ) where
   -- ---- the laws of the history up to instant e
@@ -41,7 +41,7 @@ module _ (n : ℕ) (o : Order) (R : ℕ → ℕ → Register) (page : ℕ → Li
     pub instant : ℕ
     pub from : low ≤ instant
     pub before : instant < high
-    pub holds : trimmed n (getD rs k noRegister) ≡ R (o .row k) instant
+    pub holds : trimmed n (getD rs k noRegister) ≡ R (o .register k) instant
 
   held-later : {rs : List Register} {k low high : ℕ} (high′ : ℕ) → high ≤ high′ → Held rs k low high → Held rs k low high′
   held-later high′ l h =
@@ -75,7 +75,7 @@ module _ (n : ℕ) (o : Order) (R : ℕ → ℕ → Register) (page : ℕ → Li
   -- the process's own read, of register r, by the turn numbered e + 1
   module _ (e : ℕ) (r : Register) (full : length (take n (r .view)) ≡ n) where
     -- a collect with r read into place p, of which the places below p were held
-    held-read : (rs : List Register) (p low : ℕ) → n ≤ length rs → p < n → low ≤ e → trimmed n r ≡ R (o .row p) e →
+    held-read : (rs : List Register) (p low : ℕ) → n ≤ length rs → p < n → low ≤ e → trimmed n r ≡ R (o .register p) e →
         ((k : ℕ) → k < p → Held rs k low e) → (k : ℕ) → k < p + 1 → Held (readInto n r p rs) k low (suc e)
     held-read rs p low l m g q h k w =
         by-cases (ℕ-discrete k p)
@@ -92,10 +92,10 @@ module _ (n : ℕ) (o : Order) (R : ℕ → ℕ → Register) (page : ℕ → Li
       ((pos + 1 < 2 * n) × Collecting b (suc e) a′ c′ end′ (pos + 1)) ⊎ ((pos + 1 ≡ 2 * n) × Collected b (suc e) a′ c′ end′)
 
   pub collecting-reads : {b e : ℕ} {a c : List Register} {end pos : ℕ} (r : Register) → length (take n (r .view)) ≡ n →
-      n ≤ length a → n ≤ length c → b ≤ e → trimmed n r ≡ R (o .row (placeAt n pos)) e →
+      n ≤ length a → n ≤ length c → b ≤ e → trimmed n r ≡ R (o .register (placeAt n pos)) e →
       Collecting b e a c end pos → Reads b e a c end r pos
   collecting-reads {b} {e} {a} {c} {end} r full la lc w q (in-first p l h) =
-      let q′ : trimmed n r ≡ R (o .row p) e = q ∙ ap (λ i. R (o .row i) e) (place-first n p l) in
+      let q′ : trimmed n r ≡ R (o .register p) e = q ∙ ap (λ i. R (o .register i) e) (place-first n p l) in
       let held = held-read e r full a p b la l w q′ h in
       by-cases (ℕ-discrete (p + 1) n)
       (λ x. inl (
@@ -110,7 +110,7 @@ module _ (n : ℕ) (o : Order) (R : ℕ → ℕ → Register) (page : ℕ → Li
             (in-first (p + 1) (omega arith) held),
       ))
   collecting-reads {b} {e} {a} {c} {end} r full la lc w q (in-second p l m f h) =
-      let q′ : trimmed n r ≡ R (o .row p) e = q ∙ ap (λ i. R (o .row i) e) (place-second n p) in
+      let q′ : trimmed n r ≡ R (o .register p) e = q ∙ ap (λ i. R (o .register i) e) (place-second n p) in
       let held = held-read e r full c p end lc l m q′ h in
       let late : n + p + 1 ≢ n = λ x. omega arith in
       by-cases (ℕ-discrete (p + 1) n)
@@ -132,7 +132,7 @@ module _ (n : ℕ) (o : Order) (R : ℕ → ℕ → Register) (page : ℕ → Li
     -- register j in a collect, as it stood at the instant of its read
     held-register : {rs : List Register} {low high : ℕ} (j : ℕ) → j < n → (h : Held rs (o .place j) low high) →
         trimmed n (collectedAt o rs j) ≡ R j (h .instant)
-    held-register j l h = h .holds ∙ ap (λ i. R i (h .instant)) (P .row-place j l)
+    held-register j l h = h .holds ∙ ap (λ i. R i (h .instant)) (P .register-place j l)
 
     module _ {s b e : ℕ} {a c : List Register} {end : ℕ} (L : Laws e) (C : Collected b (suc e) a c end) (sb : s ≤ b) where
       -- the two reads of register j: the seqs that they found

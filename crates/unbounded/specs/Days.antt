@@ -58,7 +58,7 @@ readsUpTo8 n = cond (outside 1 8 n) 0 (mostReads n)
 -- "An entry takes one turn more"
 abbrev pub mostTurns : ℕ → Job → ℕ
 mostTurns n scan = mostReads n
-mostTurns n (update row w) = mostReads n + 1
+mostTurns n (update register w) = mostReads n + 1
 
 -- "the event number is 65,535"
 unfoldable pub isFull : ℕ → Bool
@@ -175,7 +175,7 @@ accept o s (turnOf d page) =
 
 -- ---- the method
 
--- what the tally sees: an entry's row is its process's own
+-- what the tally sees: an update's register is its process's own
 abbrev pub sees : Item → Seen
 sees (openFor k) = opening
 sees (updateCall d w) = call d (update d w)

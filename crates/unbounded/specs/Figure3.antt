@@ -56,7 +56,7 @@ pub data Procedure : Type 0 where
 module _ (o : Order) where
   unfoldable pub collect : (k p : ℕ) → (Array Triple → Variables) → Array Triple → (Array Triple → Procedure) → Procedure
   collect zero p variables x next = next x
-  collect (suc k) p variables x next = read (variables x) (o .row p) (λ r. collect k (suc p) variables (assigned x (o .row p) r) next)
+  collect (suc k) p variables x next = read (variables x) (o .register p) (λ r. collect k (suc p) variables (assigned x (o .register p) r) next)
 
 -- lines 6 to 10, for the k processes from j on
 unfoldable pub search : (k j : ℕ) → (a b : Array Triple) (moved : Array ℕ) → (again : Array ℕ → Procedure) →

@@ -5,6 +5,3 @@ pub mod Turns
 pub mod Days
 pub mod MarkedDays
 pub mod Figure3
-pub mod Steps
-pub mod Tables
-pub mod Requests

@@ -41,14 +41,14 @@ cleared n rs = over n (map (laid n zeroRegister) rs) rs
 
 -- ---- the order of reading
 
--- place p of a collect is that of register `row p`; register j is read into place `place j`; both count from 0
+-- place p of a collect is that of register `register p`; register j is read into place `place j`; both count from 0
 pub record Order : Type 0 where
-  pub row : ℕ → ℕ
+  pub register : ℕ → ℕ
   pub place : ℕ → ℕ
 
 -- "rows 1 to n, then rows 1 to n again"
 abbrev pub ascending : Order
-ascending = record { row = λ p. p; place = λ j. j }
+ascending = record { register = λ p. p; place = λ j. j }
 
 -- register j as a collect has it
 abbrev pub collectedAt : Order → List Register → ℕ → Register

@@ -28,8 +28,8 @@ placeAt n p = cond (ltb p n) p (p - n)
 -- the register that the next turn of a task reads, from 0, if it reads one
 abbrev pub reads : Order → ℕ → Task → Option ℕ
 reads o n Idle = none
-reads o n (Scan t) = some (o .row (placeAt n (position n t)))
-reads o n (Update w t) = some (o .row (placeAt n (position n t)))
+reads o n (Scan t) = some (o .register (placeAt n (position n t)))
+reads o n (Update w t) = some (o .register (placeAt n (position n t)))
 reads o n (Ready w at t) = none
 
 -- ---- the collects after register r is read at position p by the turn numbered now
@@ -83,20 +83,25 @@ found o n b end (some again) = none
 
 -- ---- the record after a reading turn
 
--- p with task k and view v, once register r is read at position pos by the turn numbered now
+-- p with task k, view v and marks ms, once register r is read at position pos by the turn numbered now
+abbrev pub readWith : ℕ → ℕ → ℕ → Register → Process → Task → List ℕ → List Bool → Process
+readWith n now pos r p k v ms =
+    record {
+      register = p .register;
+      task = k;
+      first = firstAfter n pos r (p .first);
+      second = secondAfter n pos r (p .second);
+      «first_end» = endAfter n pos now (p .«first_end»);
+      view = v;
+      moved = ms;
+    }
+
+-- p with task k and view v after that read
 unfoldable pub afterRead : Order → ℕ → ℕ → ℕ → Register → Process → Task → List ℕ → Process
 afterRead o n now pos r p k v =
     let a = firstAfter n pos r (p .first) in
     let b = secondAfter n pos r (p .second) in
-    record {
-      register = p .register;
-      task = k;
-      first = a;
-      second = b;
-      «first_end» = endAfter n pos now (p .«first_end»);
-      view = v;
-      moved = marksAfter o n a b (p .moved) (decision o n pos a b (p .moved));
-    }
+    readWith n now pos r p k v (marksAfter o n a b (p .moved) (decision o n pos a b (p .moved)))
 
 -- the page that the read at position pos finds, if it finds one
 unfoldable pub foundBy : Order → ℕ → ℕ → ℕ → Register → Process → Option Found

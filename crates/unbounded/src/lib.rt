@@ -1,5 +1,4 @@
 // Figure 3, the unbounded single-writer method: the types of its registers and processes, and its limits.
-use snapshot::Answer;
 ghost use mathlib.Core.Path.{_≡_};
 ghost use Rattle.unbounded.specs.Days.{readsUpTo8, blankDay};
 
@@ -45,12 +44,6 @@ pub fn blank() -> Day
     Day { count: 0, event: 0 }
 }
 
-// A day after an item, and the item's answer.
-pub struct Outcome {
-    pub day: Day,
-    pub answer: Answer,
-}
-
 // The most reads of a scan, for 1 to 8 processes.
 const MOST_READS: [u32; 8] = [2, 8, 18, 32, 50, 72, 98, 128];
 
@@ -67,9 +60,3 @@ pub fn most_reads(n: u32) -> u32
     let i = (n - 1) as usize;
     MOST_READS[i]
 }
-
-mod arrays;
-mod checks;
-mod requests;
-pub mod table;
-mod turns;

@@ -5,11 +5,6 @@ use lib.ListN.{length}
 use Rattle.day_runner.specs.Input.{Within}
 use Rattle.day_runner.proofs.main.Statement.{statement}
 use Rattle.day_runner.proofs.main.Tie as tie
-use Rattle.day_runner.proofs.main.Reads as reads
-use Rattle.day_runner.proofs.main.Lts as lts
-use Rattle.day_runner.proofs.pass.Reads as pass-reads
-use Rattle.day_runner.proofs.records.start.Reads as start-reads
-use Rattle.io.proofs.large_buffer.Reads as large-buffer-reads
 
 abbrev Inv-loop : tie.InvT-loop
 Inv-loop bytes₀ out₀ ran₀ passes₀ bytes out ran passes = Within (ran .place .input) (length bytes) × (65536 ≡ length bytes) × (65536 ≡ length out)

@@ -5,14 +5,6 @@ use Rattle.day_runner.specs.Input.{Within}
 use borrow.Author.Needs.{needs}
 use Rattle.day_runner.proofs.pass.Statement.{statement}
 use Rattle.day_runner.proofs.pass.Tie as tie
-use Rattle.day_runner.proofs.pass.Reads as reads
-use Rattle.day_runner.proofs.pass.Lts as lts
-use Rattle.day_runner.proofs.input.refill.Reads as refill-reads
-use Rattle.day_runner.proofs.records.flushed.Reads as flushed-reads
-use Rattle.day_runner.proofs.records.is_waiting.Reads as is-waiting-reads
-use Rattle.day_runner.proofs.records.refilled.Reads as refilled-reads
-use Rattle.day_runner.proofs.records.run.Reads as run-reads
-use Rattle.day_runner.proofs.write_out.Reads as write-out-reads
 
 -- src/main.rt:27:9
 refill-requires : tie.Need-refill-requires

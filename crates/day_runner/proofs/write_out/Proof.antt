@@ -4,9 +4,6 @@ use lib.Seq.{length-take-le}
 use borrow.Author.Needs.{needs}
 use Rattle.day_runner.proofs.write_out.Statement.{statement}
 use Rattle.day_runner.proofs.write_out.Tie as tie
-use Rattle.day_runner.proofs.write_out.Reads as reads
-use Rattle.day_runner.proofs.write_out.Lts as lts
-use Rattle.io.proofs.write_all.Reads as write-all-reads
 
 -- src/main.rt:14:9
 returns : tie.Need-returns

@@ -5,8 +5,6 @@ use mathlib.Core.Logic.{_≢_}
 use Rattle.dayfile.specs.Layout.{lengthOf}
 use Rattle.dayfile.proofs.length_of.Statement.{statement}
 use Rattle.dayfile.proofs.length_of.Tie as tie
-use Rattle.dayfile.proofs.length_of.Reads as reads
-use Rattle.dayfile.proofs.length_of.Lts as lts
 
 -- any other kind has no length
 unknown : (kind : ℕ) → kind ≢ 1 → kind ≢ 2 → kind ≢ 3 → kind ≢ 4 → 0 ≡ lengthOf kind

@@ -2,8 +2,6 @@
 use borrow.Author.Needs.{needs}
 use Rattle.snapshot.proofs.number_in.Statement.{statement}
 use Rattle.snapshot.proofs.number_in.Tie as tie
-use Rattle.snapshot.proofs.number_in.Reads as reads
-use Rattle.snapshot.proofs.number_in.Lts as lts
 
 -- src/lib.rt:64:23
 enum-known-x : tie.Need-enum-known-x

@@ -2,8 +2,6 @@
 use borrow.Author.Needs.{needs}
 use Rattle.unbounded.proofs.blank.Statement.{statement}
 use Rattle.unbounded.proofs.blank.Tie as tie
-use Rattle.unbounded.proofs.blank.Reads as reads
-use Rattle.unbounded.proofs.blank.Lts as lts
 
 -- src/lib.rt:42:1
 returns : tie.Need-returns

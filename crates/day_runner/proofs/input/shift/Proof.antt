@@ -5,8 +5,6 @@ use native.Mathlib.Omega.{arith}
 use lib.ListN.{length, length-set}
 use Rattle.day_runner.proofs.input.shift.Statement.{statement}
 use Rattle.day_runner.proofs.input.shift.Tie as tie
-use Rattle.day_runner.proofs.input.shift.Reads as reads
-use Rattle.day_runner.proofs.input.shift.Lts as lts
 
 abbrev Inv-loop : tie.InvT-loop
 Inv-loop bytes₀ at n i₀ bytes i = (i ≤ n) × (length bytes ≡ length bytes₀)

@@ -4,11 +4,6 @@ use lib.Seq.{length-take-le}
 use borrow.Author.Needs.{needs}
 use Rattle.day_runner.proofs.printed.lay.Statement.{statement}
 use Rattle.day_runner.proofs.printed.lay.Tie as tie
-use Rattle.day_runner.proofs.printed.lay.Reads as reads
-use Rattle.day_runner.proofs.printed.lay.Lts as lts
-use Rattle.day_runner.proofs.printed.line_of.Reads as line-of-reads
-use Rattle.day_runner.proofs.printed.shown.Reads as shown-reads
-use Rattle.daytext.proofs.lay.Reads as lay-reads
 
 -- src/printed.rt:78:9
 shown-requires : tie.Need-shown-requires

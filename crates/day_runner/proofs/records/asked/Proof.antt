@@ -40,10 +40,10 @@ use Rattle.snapshot.specs.declared.Request.{Request}
 use Rattle.dayfile.specs.declared.Reading.{Reading}
 use Rattle.unbounded.specs.declared.Day.{Day}
 use Rattle.unbounded.specs.declared.Process.{Process}
-use Rattle.unbounded.specs.declared.Outcome.{Outcome}
-use Rattle.unbounded.proofs.Walks.{held, Row, also, a-bool}
-use Rattle.unbounded.proofs.PassedOn.{a-day, a-request, an-outcome, leaves-if, calls-data}
-use Rattle.unbounded.proofs.Passing.{lent-of, says-all, taken}
+use Rattle.memory.specs.declared.Outcome.{Outcome}
+use Rattle.memory.proofs.Walks.{held, Row, also, a-bool}
+use Rattle.memory.proofs.PassedOn.{a-day, a-request, an-outcome, leaves-if, calls-data}
+use Rattle.memory.proofs.Passing.{lent-of, says-all, taken}
 use Rattle.day_runner.proofs.Lending.{a-reading, Any, left-of, calls-lent-some}
 use Rattle.day_runner.proofs.records.is_none as g₁
 use Rattle.day_runner.proofs.records.is_none.Symbol as g₁-def
@@ -54,9 +54,9 @@ use Rattle.day_runner.proofs.records.unasked.Met as g₂-thm
 use Rattle.day_runner.proofs.records.request_of as g₃
 use Rattle.day_runner.proofs.records.request_of.Symbol as g₃-def
 use Rattle.day_runner.proofs.records.request_of.Met as g₃-thm
-use Rattle.unbounded.proofs.table.step as g₄
-use Rattle.unbounded.proofs.table.step.Symbol as g₄-def
-use Rattle.unbounded.proofs.table.step.Met as g₄-thm
+use Rattle.memory.proofs.table.step as g₄
+use Rattle.memory.proofs.table.step.Symbol as g₄-def
+use Rattle.memory.proofs.table.step.Met as g₄-thm
 use Rattle.day_runner.proofs.records.asked.Key.{name as #f}
 use Rattle.day_runner.proofs.records.asked as f
 use Rattle.day_runner.proofs.records.asked.Statement as stated
@@ -195,5 +195,5 @@ asked-spec 𝓤 H 𝓜 𝓖 𝓡 =
       cited 𝓤 H (G₁ 𝓤 H (𝓖 .A) (𝓜 .mem) (𝓡 .run)) 𝓜 𝓡 code.env g₁-def.name g₁-def.routine code.calls-day-runner·records·is-none (g₁-thm.met 𝓤 H 𝓜 𝓖 𝓡),
       cited 𝓤 H (G₂ 𝓤 H (𝓖 .A) (𝓜 .mem) (𝓡 .run)) 𝓜 𝓡 code.env g₂-def.name g₂-def.routine code.calls-day-runner·records·unasked (g₂-thm.met 𝓤 H 𝓜 𝓖 𝓡),
       cited 𝓤 H (G₃ 𝓤 H (𝓖 .A) (𝓜 .mem) (𝓡 .run)) 𝓜 𝓡 code.env g₃-def.name g₃-def.routine code.calls-day-runner·records·request-of (g₃-thm.met 𝓤 H 𝓜 𝓖 𝓡),
-      cited 𝓤 H (G₄ 𝓤 H (𝓖 .A) (𝓜 .mem) (𝓡 .run)) 𝓜 𝓡 code.env g₄-def.name g₄-def.routine code.calls-unbounded·table·step (g₄-thm.met 𝓤 H 𝓜 𝓖 𝓡),
+      cited 𝓤 H (G₄ 𝓤 H (𝓖 .A) (𝓜 .mem) (𝓡 .run)) 𝓜 𝓡 code.env g₄-def.name g₄-def.routine code.calls-memory·table·step (g₄-thm.met 𝓤 H 𝓜 𝓖 𝓡),
     ))

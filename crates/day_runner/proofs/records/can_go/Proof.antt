@@ -4,9 +4,6 @@ use mathlib.Core.Bool.{true≢false}
 use borrow.Author.Needs.{needs}
 use Rattle.day_runner.proofs.records.can_go.Statement.{statement}
 use Rattle.day_runner.proofs.records.can_go.Tie as tie
-use Rattle.day_runner.proofs.records.can_go.Reads as reads
-use Rattle.day_runner.proofs.records.can_go.Lts as lts
-use Rattle.day_runner.proofs.records.has_room.Reads as has-room-reads
 
 -- src/records.rt:124:9
 returns : tie.Need-returns

@@ -2,8 +2,6 @@
 use borrow.Author.Needs.{needs}
 use Rattle.day_runner.proofs.records.lent_to.Statement.{statement}
 use Rattle.day_runner.proofs.records.lent_to.Tie as tie
-use Rattle.day_runner.proofs.records.lent_to.Reads as reads
-use Rattle.day_runner.proofs.records.lent_to.Lts as lts
 
 -- src/records.rt:171:23
 enum-known-x : tie.Need-enum-known-x

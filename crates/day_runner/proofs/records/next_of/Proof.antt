@@ -7,9 +7,6 @@ use Rattle.dayfile.proofs.Files.{records-ends}
 use borrow.Author.Needs.{needs}
 use Rattle.day_runner.proofs.records.next_of.Statement.{statement}
 use Rattle.day_runner.proofs.records.next_of.Tie as tie
-use Rattle.day_runner.proofs.records.next_of.Reads as reads
-use Rattle.day_runner.proofs.records.next_of.Lts as lts
-use Rattle.dayfile.proofs.read.Reads as read-reads
 
 -- src/records.rt:235:19
 sub-read : tie.Need-sub-read

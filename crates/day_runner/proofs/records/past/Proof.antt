@@ -5,10 +5,6 @@ use native.Mathlib.Omega.{arith}
 use borrow.Author.Needs.{needs}
 use Rattle.day_runner.proofs.records.past.Statement.{statement}
 use Rattle.day_runner.proofs.records.past.Tie as tie
-use Rattle.day_runner.proofs.records.past.Reads as reads
-use Rattle.day_runner.proofs.records.past.Lts as lts
-use Rattle.day_runner.proofs.printed.is_end.Reads as is-end-reads
-use Rattle.day_runner.proofs.printed.lay.Reads as lay-reads
 
 ends : (c : tie.After-struct-known2) → let i = c .before .before .before .before .before .before .before .before .before .before .before .before .before .args .at .input in i .at + c .before .before .x .given .0 .1 .0 ≤ i .end
 ends c = c .before .before .before .before .before .before .before .before .before .before .before .before .before .pre .0 _ _ (c .before .before .x .given .1)

@@ -46,20 +46,20 @@ use Rattle.snapshot.specs.declared.Request.{Request}
 use Rattle.dayfile.specs.declared.Reading.{Reading}
 use Rattle.unbounded.specs.declared.Day.{Day}
 use Rattle.unbounded.specs.declared.Process.{Process}
-use Rattle.unbounded.specs.declared.Outcome.{Outcome}
+use Rattle.memory.specs.declared.Outcome.{Outcome}
 use Rattle.day_runner.specs.declared.records.Place.{Place}
 use Rattle.day_runner.specs.declared.records.Running.{Running}
 use Rattle.day_runner.specs.Input.{Within, Ends}
 use Rattle.unbounded.proofs.Process.Laws as Pr′
-use Rattle.unbounded.proofs.Outcome.Laws as O′
+use Rattle.memory.proofs.Outcome.Laws as O′
 use Rattle.snapshot.proofs.Request.Laws as Q′
 use Rattle.dayfile.proofs.Reading.Laws as X′
 use Rattle.day_runner.proofs.records.Place.Laws as P′
 use Rattle.day_runner.proofs.records.Running.Laws as R′
-use Rattle.unbounded.proofs.Walks.{held, Row, also, a-bool, a-usize}
-use Rattle.unbounded.proofs.PassedOn.{a-day, a-request, an-outcome, calls-data}
-use Rattle.unbounded.proofs.Passing.{lent-of, taken}
-use Rattle.unbounded.proofs.LocalTable.{Table, a-table, lent-long, lent-room, whole-long, table-out, table-back}
+use Rattle.memory.proofs.Walks.{held, Row, also, a-bool, a-usize}
+use Rattle.memory.proofs.PassedOn.{a-day, a-request, an-outcome, calls-data}
+use Rattle.memory.proofs.Passing.{lent-of, taken}
+use Rattle.memory.proofs.LocalTable.{Table, a-table, lent-long, lent-room, whole-long, table-out, table-back}
 use Rattle.day_runner.proofs.Lending.{a-place, a-running, a-reading, Any, after, day-of, place-of, table-of, left-of, shared-own, shared-of, tests, calls-passed, calls-lent-some, calls-shared-lent}
 use Rattle.day_runner.proofs.records.can_go as g₁
 use Rattle.day_runner.proofs.records.can_go.Symbol as g₁-def

@@ -5,11 +5,6 @@ use Rattle.day_runner.specs.Input.{Within}
 use borrow.Author.Needs.{needs}
 use Rattle.day_runner.proofs.records.start.Statement.{statement}
 use Rattle.day_runner.proofs.records.start.Tie as tie
-use Rattle.day_runner.proofs.records.start.Reads as reads
-use Rattle.day_runner.proofs.records.start.Lts as lts
-use Rattle.day_runner.proofs.records.with_table.Reads as with-table-reads
-use Rattle.unbounded.proofs.blank.Reads as blank-reads
-use Rattle.unbounded.proofs.table.blank.Reads as table-blank-reads
 
 -- src/records.rt:53:14
 blank-requires : tie.Need-blank-requires

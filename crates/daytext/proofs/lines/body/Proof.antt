@@ -4,14 +4,6 @@ use Rattle.daytext.specs.Lines.{bodyOf}
 use borrow.Author.Needs.{needs}
 use Rattle.daytext.proofs.lines.body.Statement.{statement}
 use Rattle.daytext.proofs.lines.body.Tie as tie
-use Rattle.daytext.proofs.lines.body.Reads as reads
-use Rattle.daytext.proofs.lines.body.Lts as lts
-use Rattle.daytext.proofs.lines.page.Reads as page-reads
-use Rattle.daytext.proofs.lines.read.Reads as read-reads
-use Rattle.daytext.proofs.lines.scan.Reads as scan-reads
-use Rattle.daytext.proofs.lines.update.Reads as update-reads
-use Rattle.daytext.proofs.lines.written.Reads as written-reads
-use Rattle.daytext.proofs.put.field.Reads as field-reads
 
 -- src/lines.rt:23:24
 enum-known-line : tie.Need-enum-known-line

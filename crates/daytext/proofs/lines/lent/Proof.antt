@@ -4,10 +4,6 @@ use Rattle.daytext.proofs.Laying.{in-turn}
 use borrow.Author.Needs.{needs}
 use Rattle.daytext.proofs.lines.lent.Statement.{statement}
 use Rattle.daytext.proofs.lines.lent.Tie as tie
-use Rattle.daytext.proofs.lines.lent.Reads as reads
-use Rattle.daytext.proofs.lines.lent.Lts as lts
-use Rattle.daytext.proofs.put.field.Reads as field-reads
-use Rattle.daytext.proofs.put.number.Reads as number-reads
 
 -- src/lines.rt:95:9
 number-requires : tie.Need-number-requires

@@ -11,12 +11,6 @@ use Rattle.daytext.proofs.Laying.{in-turn, laid-as}
 use borrow.Author.Needs.{needs}
 use Rattle.daytext.proofs.lines.page.Statement.{statement}
 use Rattle.daytext.proofs.lines.page.Tie as tie
-use Rattle.daytext.proofs.lines.page.Reads as reads
-use Rattle.daytext.proofs.lines.page.Lts as lts
-use Rattle.daytext.proofs.lines.lent.Reads as lent-reads
-use Rattle.daytext.proofs.put.bytes.Reads as bytes-reads
-use Rattle.daytext.proofs.put.field.Reads as field-reads
-use Rattle.daytext.proofs.put.numbers.Reads as numbers-reads
 
 -- the parts, as they are laid
 page-text : (e p l i t : ℕ) (ws : List ℕ)

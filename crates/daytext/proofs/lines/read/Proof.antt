@@ -6,10 +6,6 @@ use Rattle.daytext.proofs.Laying.{in-turn}
 use borrow.Author.Needs.{needs}
 use Rattle.daytext.proofs.lines.read.Statement.{statement}
 use Rattle.daytext.proofs.lines.read.Tie as tie
-use Rattle.daytext.proofs.lines.read.Reads as reads
-use Rattle.daytext.proofs.lines.read.Lts as lts
-use Rattle.daytext.proofs.put.field.Reads as field-reads
-use Rattle.daytext.proofs.put.number.Reads as number-reads
 
 -- src/lines.rt:72:9
 number-requires : tie.Need-number-requires

@@ -6,10 +6,6 @@ use Rattle.daytext.proofs.Laying.{in-turn}
 use borrow.Author.Needs.{needs}
 use Rattle.daytext.proofs.lines.scan.Statement.{statement}
 use Rattle.daytext.proofs.lines.scan.Tie as tie
-use Rattle.daytext.proofs.lines.scan.Reads as reads
-use Rattle.daytext.proofs.lines.scan.Lts as lts
-use Rattle.daytext.proofs.put.field.Reads as field-reads
-use Rattle.daytext.proofs.put.number.Reads as number-reads
 
 -- src/lines.rt:63:9
 number-requires : tie.Need-number-requires

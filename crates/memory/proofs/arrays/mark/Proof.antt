@@ -1,0 +1,94 @@
+-- `memory::arrays::mark` meets its contract: the processes that were passed are marked as the search marks them.
+use Prim.Native.Nat.{_≤_, _-_}
+use mathlib.Core.Path.{_≡_, refl, sym, ap, _∙_}
+use mathlib.Core.Bool.{true, cond}
+use mathlib.Core.Logic.{⊎-elim}
+use borrow.Author.Needs.{needs}
+use native.Mathlib.Omega.{arith}
+use lib.ListN.{set}
+use Rattle.unbounded.specs.Registers.{ascending, differs, withMoved}
+use Rattle.unbounded.specs.Turns.{markFrom}
+use Rattle.unbounded.proofs.Moved.{same-seqs, other-seqs}
+use Rattle.unbounded.proofs.Marks.{marks-more}
+use Rattle.memory.proofs.arrays.mark.Statement.{statement}
+use Rattle.memory.proofs.arrays.mark.Tie as tie
+
+abbrev Inv-loop : tie.InvT-loop
+Inv-loop k a b x₀ j₀ x j = (j ≤ k) × (x ≡ markFrom (differs ascending a b) j 0 x₀)
+
+abbrev μ-loop : tie.MeasureT-loop
+μ-loop k a b x₀ j₀ x j = k - j
+
+-- src/arrays.rt:100:5
+loop-holds : tie.Need-loop-holds Inv-loop μ-loop
+loop-holds c = (omega arith, refl)
+
+-- src/arrays.rt:101:12
+mul-if1 : tie.Need-mul-if1 Inv-loop μ-loop
+mul-if1 c = search needs
+
+-- src/arrays.rt:101:12
+element-copy-out-if1 : tie.Need-element-copy-out-if1 Inv-loop μ-loop
+element-copy-out-if1 c = search needs
+
+-- src/arrays.rt:101:24
+mul-if1-2 : tie.Need-mul-if1-2 Inv-loop μ-loop
+mul-if1-2 c = search needs
+
+-- src/arrays.rt:101:24
+element-copy-out-if1-2 : tie.Need-element-copy-out-if1-2 Inv-loop μ-loop
+element-copy-out-if1-2 c = search needs
+
+-- src/arrays.rt:102:13
+array-write-x : tie.Need-array-write-x Inv-loop μ-loop
+array-write-x c = search needs
+
+-- src/arrays.rt:104:9
+add-j : tie.Need-add-j Inv-loop μ-loop
+add-j c = search needs
+
+-- src/arrays.rt:100:5
+loop-less : tie.Need-loop-less Inv-loop μ-loop
+loop-less c = search needs
+
+-- src/arrays.rt:100:5
+loop-again : tie.Need-loop-again Inv-loop μ-loop
+unfolding withMoved
+loop-again c =
+    let a = c .before .before .before .args in
+    let l = c .before .before .loop in
+    let f = differs ascending (a .t2) (a .t3) in
+    let y = markFrom f (l .j) 0 (a .ms) in (
+      omega arith,
+      ⊎-elim
+          (λ w. w .1 ∙ ap (λ x. set x (l .j) true) (l .inv .1)
+          ∙ sym (marks-more f (l .j) (a .ms) ∙ ap (λ t. cond t (withMoved y (l .j)) y) (other-seqs ascending (a .t2) (a .t3) (l .j) (w .0 .taken))))
+          (λ w. w .1 ∙ l .inv .1
+          ∙ sym (marks-more f (l .j) (a .ms) ∙ ap (λ t. cond t (withMoved y (l .j)) y) (same-seqs ascending (a .t2) (a .t3) (l .j) (w .0 .left))))
+          (c .if1 .came),
+    )
+
+-- src/arrays.rt:94:1
+returns : tie.Need-returns Inv-loop μ-loop
+returns c =
+    let a = c .before .before .args in
+    let l = c .before .loop in
+    let all : l .j ≡ a .k = omega arith in
+    l .inv .1 ∙ ap (λ i. markFrom (differs ascending (a .t2) (a .t3)) i 0 (a .ms)) all
+
+pub mark-spec : {M : Type 1} → statement M
+mark-spec =
+    tie.close
+    (tie.spec
+    Inv-loop
+    μ-loop
+    loop-holds
+    mul-if1
+    element-copy-out-if1
+    mul-if1-2
+    element-copy-out-if1-2
+    array-write-x
+    add-j
+    loop-less
+    loop-again
+    returns)
