@@ -1,2 +1,2 @@
 -- What the runner's walks share.
-pub mod Lending
+pub mod Data

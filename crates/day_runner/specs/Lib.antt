@@ -1,2 +1,3 @@
--- What the day runner keeps true of its input buffer.
+-- What the day runner keeps true of its input buffer, and what it prints.
 pub mod Input
+pub mod Printed

@@ -4,10 +4,17 @@ use daytext::Line;
 use memory::Outcome;
 use snapshot::Answer;
 use snapshot::Request;
-ghost use Prim.Native.Nat.{_≤_};
+ghost use mathlib.Core.Path.{_≡_};
+ghost use mathlib.Core.List.{List};
+ghost use Prim.Native.Nat.{ℕ, _≤_};
+ghost use lib.ListN.{length, take};
+ghost use Rattle.daytext.specs.Buffer.{laidPlace, laidText};
+ghost use Rattle.day_runner.specs.Printed.{callLine, answerLine, lineOf, isEnd};
 
 // The line of a call that was accepted with the given event number.
-fn call_line(x: Request, event: u32) -> Line {
+fn call_line(x: Request, event: u32) -> Line
+    ensures { λ l. ⌜ l ≡ callLine event x ⌝ }
+{
     match x {
         Request::Update { process, word } => Line::Update {
             event,
@@ -21,7 +28,9 @@ fn call_line(x: Request, event: u32) -> Line {
 }
 
 // The line of a request and its answer, by the event number afterwards.
-fn answer_line(x: Request, event: u32, a: Answer) -> Line {
+fn answer_line(x: Request, event: u32, a: Answer) -> Line
+    ensures { λ l. ⌜ l ≡ answerLine x event a ⌝ }
+{
     let process = snapshot::number_in(x);
     match a {
         Answer::Refused(k) => Line::Refused {
@@ -46,7 +55,9 @@ fn answer_line(x: Request, event: u32, a: Answer) -> Line {
 }
 
 // The line of what was read, and of its outcome.
-fn line_of(x: Reading, o: Outcome) -> Line {
+fn line_of(x: Reading, o: Outcome) -> Line
+    ensures { λ l. ⌜ l ≡ lineOf o x ⌝ }
+{
     let day = o.day;
     let answer = o.answer;
     match x {
@@ -59,7 +70,9 @@ fn line_of(x: Reading, o: Outcome) -> Line {
 }
 
 // Whether it is the end that was read.
-pub fn is_end(x: Reading) -> bool {
+pub fn is_end(x: Reading) -> bool
+    ensures { λ b. ⌜ b ≡ isEnd x ⌝ }
+{
     match x {
         Reading::Found { record: _, next: _ } => false,
         Reading::End => true,
@@ -69,14 +82,17 @@ pub fn is_end(x: Reading) -> bool {
 
 // How many words of a page list of that size a day shows.
 fn shown(count: u32, size: usize) -> usize
-    ensures { λ n. ⌜ n ≤ size ⌝ }
+    ensures { λ n. ⌜ (n ≤ size) × ((l : List ℕ) → length l ≡ size → take n l ≡ take count l) ⌝ }
 {
     let n = count as usize;
     if size < n { size } else { n }
 }
 
 // Lays the line of what was read, with the words of the page list that the day shows, and answers the place after it.
-pub fn lay(x: Reading, o: Outcome, page: &[u32], out: &mut [u8], to: usize) -> usize {
+pub fn lay(x: Reading, o: Outcome, page: &[u32], out: &mut [u8], to: usize) -> usize
+    ensures { λ r. ⌜ r ≡ laidPlace (lineOf o x) (take (o .day .count) (now (page .entry))) (now (out .entry)) to ⌝ }
+    ensures { λ r. ⌜ now (out .exit) ≡ laidText (lineOf o x) (take (o .day .count) (now (page .entry))) (now (out .entry)) to ⌝ }
+{
     let day = o.day;
     let n = shown(day.count, page.len());
     daytext::lay(line_of(x, o), &page[..n], out, to)

@@ -40,10 +40,6 @@ Table = Array Row 8
 abbrev pub a-table : Data
 a-table = record { row = Table; val = λ xs. arrayVal (map (λ x. P′.lowered x) xs); told = array-tells Row (λ p. P′.lowered p ∷ []) (a-process .told) 8; made = λ 𝓤 H A W. array-makes 𝓤 H A W Row (a-process .made 𝓤 H A W) 8; lawful = λ 𝓤 H A W. array-lawful 𝓤 H A W Row (a-process .lawful 𝓤 H A W) 8 }
 
--- the machine value of plain data is the one that its bundle says
-pub spelled : (D : Data) (x : D .row .Denot) (vs : List Val) → Is (D .row) x vs → Is (D .row) x (D .val x ∷ [])
-spelled D x vs is = subst (Is (D .row) x) (D .told x vs is) is
-
 -- a table is a field of a struct by its records' own fields
 abbrev Fields : RattleType
 Fields = array-field P.the-field 8 .row
@@ -75,7 +71,7 @@ module _ (xs : List Process) (is : Is Table xs (a-table .val xs ∷ [])) (n : �
 
 -- ---- memory
 module _ {M : Type 1} (𝓤 : URA M) (H : Heap 𝓤) (A : Atoms 𝓤) (W : Given 𝓤 H A) where
-  pub cut : (m : ℕ) (xs : List Process) (b o : ℕ) → ent 𝓤 (sem 𝓤 H A (row Row fullShare xs b o)) (sep 𝓤 (sem 𝓤 H A (row Row fullShare (take m xs) b o)) (sem 𝓤 H A (row Row fullShare (rest-of m xs) b (place (mem Row .size) o m))))
+  cut : (m : ℕ) (xs : List Process) (b o : ℕ) → ent 𝓤 (sem 𝓤 H A (row Row fullShare xs b o)) (sep 𝓤 (sem 𝓤 H A (row Row fullShare (take m xs) b o)) (sem 𝓤 H A (row Row fullShare (rest-of m xs) b (place (mem Row .size) o m))))
   cut zero xs b o = qed W (‵ (row Row fullShare xs b o) ∷ []) ∵ use0 W (‵ ftrue) (id⊢ 𝓤 (emp 𝓤)) $ done !
   cut (suc m) [] b o = qed W (‵ (row Row fullShare [] b o) ∷ []) ∵ use0 W (‵ ftrue) (id⊢ 𝓤 (emp 𝓤)) $ done !
   cut (suc m) (x ∷ xs) b o =
@@ -83,7 +79,7 @@ module _ {M : Type 1} (𝓤 : URA M) (H : Heap 𝓤) (A : Atoms 𝓤) (W : Given
       use1 W (‵ (row Row fullShare (take m xs) b (o + mem Row .size)) ⊛ ‵ (row Row fullShare (rest-of m xs) b (place (mem Row .size) (o + mem Row .size) m))) (cut m xs b (o + mem Row .size)) $
       split ! $ move ! (2 ∷ 0 ∷ []) $ fjoin ! $ done !
 
-  pub joins : (xs zs : List Process) (b o : ℕ) → ent 𝓤 (sep 𝓤 (sem 𝓤 H A (row Row fullShare xs b o)) (sem 𝓤 H A (row Row fullShare zs b (place (mem Row .size) o (length xs))))) (sem 𝓤 H A (row Row fullShare (xs ++ zs) b o))
+  joins : (xs zs : List Process) (b o : ℕ) → ent 𝓤 (sep 𝓤 (sem 𝓤 H A (row Row fullShare xs b o)) (sem 𝓤 H A (row Row fullShare zs b (place (mem Row .size) o (length xs))))) (sem 𝓤 H A (row Row fullShare (xs ++ zs) b o))
   joins [] zs b o = qed W (‵ ftrue ∷ ‵ (row Row fullShare zs b o) ∷ []) ∵ drop ! $ done !
   joins (x ∷ xs) zs b o =
       qed W (‵ (row Row fullShare (x ∷ xs) b o) ∷ ‵ (row Row fullShare zs b (place (mem Row .size) o (length (x ∷ xs)))) ∷ []) ∵ fsplit ! $ move ! (1 ∷ 2 ∷ []) $

@@ -24,8 +24,7 @@ use Rattle.unbounded.specs.Days.{State, openFor, turnOf, refusal, accept, stepp
 use Rattle.memory.specs.Steps.{asOption}
 use Rattle.memory.specs.Tables.{stateOf, outcomeOf, isRefusal, refusedOutcome, calledWith}
 use Rattle.memory.specs.Requests.{itemOf, pageAfter, isOpening, isCall, isShort, taskFor}
-use Rattle.memory.proofs.Tables.{stepped-refused, stepped-accepted}
-use Rattle.memory.proofs.PassedOn.{passed-none}
+use Rattle.memory.proofs.Tables.{stepped-refused, stepped-accepted, passed-none}
 
 -- the check that a cause, or none, is
 abbrev checkOf : Option Refusal → Check

@@ -35,9 +35,8 @@ use Rattle.memory.specs.declared.Outcome.{Outcome}
 use Rattle.unbounded.specs.Days.{State, stepped}
 use Rattle.memory.specs.Tables.{stateOf, outcomeOf}
 use Rattle.memory.specs.Requests.{itemOf, pageAfter}
-use Rattle.memory.proofs.Walks.{Row, also}
-use Rattle.memory.proofs.PassedOn.{a-day, a-request, an-outcome}
-use Rattle.memory.proofs.Passing.{lent-of, owed-of, calls-lent-two}
+use Rattle.memory.proofs.Walks.{Row, also, a-day, a-request, an-outcome}
+use Rattle.memory.proofs.Calls.{lent-of, owed-of, calls-lent-two-is}
 use Rattle.memory.proofs.table.step as step-on
 
 abbrev pub Step : {M : Type 1} (𝓤 : URA M) (H : Heap 𝓤) (A : Atoms 𝓤) (mem : Memory → SProp 𝓤) (run : Routine → Fun 𝓤) → Contract 𝓤
@@ -91,7 +90,7 @@ module _ {M : Type 1} {𝓤 : URA M} {H : Heap 𝓤} {A : Atoms 𝓤} {K : Type 
       length us ≡ length ys → length us′ ≡ length ps → Is (an-outcome .row) r (an-outcome .val r ∷ []) → Seq K W (‵ (row Row fullShare us b o) ∷ ‵ (row u32 fullShare us′ b′ o′) ∷ Γ) (lands C Λ E d (an-outcome .val r) rest q))
       → Seq K W (‵ (row Row fullShare ys b o) ∷ ‵ (row u32 fullShare ps b′ o′) ∷ Γ) (runs C Λ E (seq (call f xs d) rest) q)
   calls-step t fm memory run known day b o ys room x b′ o′ ps room′ day-is x-is os k =
-      calls-lent-two t fm (Step 𝓤 H A memory run) known Row b o ys (table-after day ys x ps) room u32 b′ o′ ps (page-after day ys x ps) room′ (to-step 𝓤 H A W memory run day b o ys x b′ o′ ps) (asks 𝓤 H A W memory run day b o ys x b′ o′ ps day-is x-is)
+      calls-lent-two-is t fm (Step 𝓤 H A memory run) known Row b o ys (table-after day ys x ps) room u32 b′ o′ ps (page-after day ys x ps) room′ (to-step 𝓤 H A W memory run day b o ys x b′ o′ ps) (asks 𝓤 H A W memory run day b o ys x b′ o′ ps day-is x-is)
       an-outcome (outcomeOf (result day ys x ps)) (ens 𝓤 H A W memory run day b o ys x b′ o′ ps) (ensures 𝓤 H A W memory run day b o ys x b′ o′ ps) (λ α δ β ε v. id⊢ 𝓤 _) os k
 
   -- the same with an empty page list, at b′: of its elements there is nothing in memory to own, so what is lent is made for the call

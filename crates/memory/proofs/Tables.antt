@@ -6,7 +6,7 @@ use mathlib.Core.Bool.{Bool, true, false, not, _||_, true≢false}
 use mathlib.Core.List.{List}
 use mathlib.Core.Option.{Option, none, some}
 use lib.ListN.{length, getD}
-use lib.Dec.{eqb, ltb}
+use lib.Dec.{T, eqb, ltb}
 use borrow.Author.Tests.{ltb-false, eqb-true, eqb-false, eq-eqb, lt-ltb, le-ltb, leb-false}
 use Rattle.snapshot.specs.Lists.{someOf}
 use Rattle.snapshot.specs.Refusals.{firstCause}
@@ -32,6 +32,16 @@ use mathlib.Core.Logic.{by-cases}
 use native.Mathlib.Nat.{mul-le-mul}
 use Rattle.snapshot.specs.declared.Answer.the-variants.{Refused}
 use Rattle.unbounded.specs.declared.Day.{Day}
+use Rattle.memory.specs.Tables.{isRefusal}
+
+-- whether a check refused
+pub refused-some : (c : Option Refusal) → T (isRefusal c) → (k : Refusal) × (c ≡ some k)
+refused-some none h = absurd h
+refused-some (some k) h = (k, refl)
+
+pub passed-none : (c : Option Refusal) → T (not (isRefusal c)) → c ≡ none
+passed-none none h = refl
+passed-none (some k) h = absurd h
 
 -- an item is its refusal, or what is accepted
 module _ (s : State) (x : Item) where

@@ -1,33 +1,46 @@
--- `day_runner::printed::lay` is safe: no more words are shown than there are.
-use mathlib.Core.Path.{sym}
+-- `day_runner::printed::lay` meets its contract.
+use mathlib.Core.Path.{refl, sym, ap, _∙_}
+use lib.ListN.{take}
 use lib.Seq.{length-take-le}
+use Rattle.daytext.specs.Buffer.{laidPlace, laidText}
+use Rattle.day_runner.specs.Printed.{lineOf}
 use borrow.Author.Needs.{needs}
 use Rattle.day_runner.proofs.printed.lay.Statement.{statement}
 use Rattle.day_runner.proofs.printed.lay.Tie as tie
 
--- src/printed.rt:78:9
+-- src/printed.rt:97:9
 shown-requires : tie.Need-shown-requires
 shown-requires c κs = search needs
 
--- src/printed.rt:79:18
+-- src/printed.rt:98:18
 line-of-requires : tie.Need-line-of-requires
 line-of-requires c κs = search needs
 
--- src/printed.rt:79:33
+-- src/printed.rt:98:33
 slice-aggregate-lay : tie.Need-slice-aggregate-lay
-slice-aggregate-lay c = sym (length-take-le _ _ (c .before .before .shown .ensures))
+slice-aggregate-lay c = sym (length-take-le _ _ (c .before .before .shown .ensures .0))
 
--- src/printed.rt:79:5
+-- src/printed.rt:98:5
 lay-requires : tie.Need-lay-requires
 lay-requires c κs = search needs
 
--- src/printed.rt:76:1
+-- src/printed.rt:92:1
 same-length : tie.Need-same-length
 same-length c = search needs
 
--- src/printed.rt:76:1
+-- src/printed.rt:92:1
 returns : tie.Need-returns
-returns c = search needs
+returns c =
+    let at-lay = c .before .before in
+    let at-line = at-lay .before .before .before in
+    let a = at-line .before .before .before .before .before .args in
+    let line = at-line .line-of .ensures in
+    let words = at-line .before .shown .ensures .1 (a .page .now) refl in
+    let shown = take (at-line .before .shown .result) (a .page .now) in
+    let out = a .out .now in (
+      at-lay .lay .ensures .0 ∙ ap (λ l. laidPlace l shown out (a .to)) line ∙ ap (λ w. laidPlace (lineOf (a .o) (a .x)) w out (a .to)) words,
+      at-lay .lay .ensures .1 ∙ ap (λ l. laidText l shown out (a .to)) line ∙ ap (λ w. laidText (lineOf (a .o) (a .x)) w out (a .to)) words,
+    )
 
 pub lay-spec : {M : Type 1} → statement M
 lay-spec =

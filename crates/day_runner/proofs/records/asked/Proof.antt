@@ -41,10 +41,9 @@ use Rattle.dayfile.specs.declared.Reading.{Reading}
 use Rattle.unbounded.specs.declared.Day.{Day}
 use Rattle.unbounded.specs.declared.Process.{Process}
 use Rattle.memory.specs.declared.Outcome.{Outcome}
-use Rattle.memory.proofs.Walks.{held, Row, also, a-bool}
-use Rattle.memory.proofs.PassedOn.{a-day, a-request, an-outcome, leaves-if, calls-data}
-use Rattle.memory.proofs.Passing.{lent-of, says-all, taken}
-use Rattle.day_runner.proofs.Lending.{a-reading, Any, left-of, calls-lent-some}
+use Rattle.memory.proofs.Walks.{held, Row, also, a-bool, a-day, a-request, an-outcome, leaves-if, says-all, taken}
+use Rattle.memory.proofs.Calls.{calls-data, lent-of, Any, left-of, calls-lent-two}
+use Rattle.day_runner.proofs.Data.{a-reading}
 use Rattle.day_runner.proofs.records.is_none as g₁
 use Rattle.day_runner.proofs.records.is_none.Symbol as g₁-def
 use Rattle.day_runner.proofs.records.is_none.Met as g₁-thm
@@ -144,15 +143,13 @@ module _ {M : Type 1} (𝓤 : URA M) (H : Heap 𝓤) (A : Atoms 𝓤) (W : Given
         move ! (25 ∷ 26 ∷ 27 ∷ []) $ opens-slice ! tt u32 ps b′ o′ $ move ! (26 ∷ 27 ∷ 28 ∷ []) $ opens-slice ! tt Row ys b o $
         -- [the records; the open borrow; obs; auth; the page list; its open borrow; obs; auth; _10; …; and so on to _0; …]
         calls-data ! fm (G₁ 𝓤 H A mem run) (known .0) ((tt, tt, tt, (y, tt), (a-reading .val y ∷ [], tt)), tt) (qed W [] ∵ nothing ! $ also ! a-reading y y-is $ nothing ! $ join ! $ frame ! $ done !)
-        a-bool (ensured 𝓤 H A g₁.ended (g₁.clauses 𝓤 H A mem run) tt (y, tt) tt) (λ _. Any) (λ r. factI 𝓤 Any (ensured 𝓤 H A g₁.ended (g₁.clauses 𝓤 H A mem run) tt (y, tt) tt r) tt) (λ v. id⊢ 𝓤 _)
-        (and-then ! (load ! (from ! (stop !)) (look ! 23 refl)) (no-more !)) (λ z _ z-is.
+        a-bool g₁.ended (g₁.clauses 𝓤 H A mem run) tt (y, tt) tt (λ r. r) (λ _. Any) (λ r ws. factI 𝓤 Any _ tt) (λ v. id⊢ 𝓤 _) (and-then ! (load ! (from ! (stop !)) (look ! 23 refl)) (no-more !)) (λ z _ z-is.
         land ! (from ! (stop !)) (init ! 18 refl (a-bool .lawful 𝓤 H A W .typed z _ z-is .0)) $
         leaves-if ! (load ! (from ! (stop !)) (look ! 18 refl))
         -- nothing is asked
         (λ none.
         calls-data ! fm (G₂ 𝓤 H A mem run) (known .1) ((tt, tt, tt, (day, tt), (a-day .val day ∷ [], tt)), tt) (qed W [] ∵ nothing ! $ also ! a-day day day-is $ nothing ! $ join ! $ frame ! $ done !)
-        an-outcome (ensured 𝓤 H A g₂.ended (g₂.clauses 𝓤 H A mem run) tt (day, tt) tt) (λ _. Any) (λ r. factI 𝓤 Any (ensured 𝓤 H A g₂.ended (g₂.clauses 𝓤 H A mem run) tt (day, tt) tt r) tt) (λ v. id⊢ 𝓤 _)
-        (and-then ! (load ! (from ! (stop !)) (look ! 27 refl)) (no-more !)) (λ x′ _ x-is.
+        an-outcome g₂.ended (g₂.clauses 𝓤 H A mem run) tt (day, tt) tt (λ r. r) (λ _. Any) (λ r ws. factI 𝓤 Any _ tt) (λ v. id⊢ 𝓤 _) (and-then ! (load ! (from ! (stop !)) (look ! 27 refl)) (no-more !)) (λ x′ _ x-is.
         land ! (from ! (stop !)) (init ! 28 refl (an-outcome .lawful 𝓤 H A W .typed x′ _ x-is .0)) $
         closes-slice ! tt Row ys ys refl b o $ move ! (3 ∷ 4 ∷ 5 ∷ 6 ∷ []) $ closes-slice ! tt u32 ps ps refl b′ o′ $
         returns-within ! Post refl (look ! 26 refl) $ forget ! 16 refl $ forget ! 18 refl $ forget ! 20 refl $ forget ! 22 refl $ forget ! 24 refl $ forget ! 26 refl $
@@ -163,12 +160,11 @@ module _ {M : Type 1} (𝓤 : URA M) (H : Heap 𝓤) (A : Atoms 𝓤) (W : Given
         assigns ! (addr ! (from ! (fld ! refl (hop ! (look-in ! 24 (sub ! 0 refl (whole !))) (stop !))))) (from ! (stop !)) (init ! 16 refl (tt, tt)) $
         assigns ! (agg ! (and-then ! (load ! (from ! (stop !)) (look ! 16 refl)) (and-then ! (load ! (from ! (fld ! refl (stop !))) (look-in ! 24 (sub ! 1 refl (whole !)))) (no-more !)))) (from ! (stop !)) (init ! 14 refl (tt, (tt, (record { fits = room .0 }, tt)))) $
         calls-data ! fm (G₃ 𝓤 H A mem run) (known .2) ((tt, tt, tt, (y, tt), (a-reading .val y ∷ [], tt)), tt) (qed W [] ∵ nothing ! $ also ! a-reading y y-is $ nothing ! $ join ! $ frame ! $ done !)
-        a-request (ensured 𝓤 H A g₃.ended (g₃.clauses 𝓤 H A mem run) tt (y, tt) tt) (λ _. Any) (λ r. factI 𝓤 Any (ensured 𝓤 H A g₃.ended (g₃.clauses 𝓤 H A mem run) tt (y, tt) tt r) tt) (λ v. id⊢ 𝓤 _)
-        (and-then ! (load ! (from ! (stop !)) (look ! 23 refl)) (no-more !)) (λ w _ w-is.
+        a-request g₃.ended (g₃.clauses 𝓤 H A mem run) tt (y, tt) tt (λ r. r) (λ _. Any) (λ r ws. factI 𝓤 Any _ tt) (λ v. id⊢ 𝓤 _) (and-then ! (load ! (from ! (stop !)) (look ! 23 refl)) (no-more !)) (λ w _ w-is.
         land ! (from ! (stop !)) (init ! 12 refl (a-request .lawful 𝓤 H A W .typed w _ w-is .0)) $
         assigns ! (addr ! (from ! (fld ! refl (hop ! (look-in ! 20 (sub ! 0 refl (whole !))) (stop !))))) (from ! (stop !)) (init ! 10 refl (tt, tt)) $
         assigns ! (agg ! (and-then ! (load ! (from ! (stop !)) (look ! 10 refl)) (and-then ! (load ! (from ! (fld ! refl (stop !))) (look-in ! 20 (sub ! 1 refl (whole !)))) (no-more !)))) (from ! (stop !)) (init ! 8 refl (tt, (tt, (record { fits = room′ .0 }, tt)))) $
-        move ! (0 ∷ 4 ∷ []) $ calls-lent-some ! fm (G₄ 𝓤 H A mem run) (known .3) Row b o ys room u32 b′ o′ ps room′ (to₄ w w-is) (asks₄ w w-is) an-outcome (ens₄ w w-is) (λ _ _ _. Any) (says₄ w w-is) (λ α δ β ε v. id⊢ 𝓤 _)
+        move ! (0 ∷ 4 ∷ []) $ calls-lent-two ! fm (G₄ 𝓤 H A mem run) (known .3) Row b o ys room u32 b′ o′ ps room′ (to₄ w w-is) (asks₄ w w-is) an-outcome (ens₄ w w-is) (λ _ _ _. Any) (says₄ w w-is) (λ α δ β ε v. id⊢ 𝓤 _)
         (λ α δ β ε. and-then ! (load ! (from ! (stop !)) (look ! 27 refl)) (and-then ! (load ! (from ! (stop !)) (look ! 15 refl)) (and-then ! (load ! (from ! (stop !)) (look ! 13 refl)) (and-then ! (load ! (from ! (stop !)) (look ! 9 refl)) (no-more !))))) (λ x′ us us′ _ l l′ x-is.
         land ! (from ! (stop !)) (init ! 28 refl (an-outcome .lawful 𝓤 H A W .typed x′ _ x-is .0)) $
         move ! (0 ∷ 2 ∷ 3 ∷ 4 ∷ []) $ closes-slice ! tt Row ys us l b o $ move ! (3 ∷ 4 ∷ 5 ∷ 6 ∷ []) $ closes-slice ! tt u32 ps us′ l′ b′ o′ $

@@ -1,9 +1,6 @@
 use borrow.Author.Needs.{needs}
 use Rattle.memory.proofs.table.blank.Statement.{statement}
 use Rattle.memory.proofs.table.blank.Tie as tie
-use Rattle.memory.proofs.table.blank.Reads as reads
-use Rattle.memory.proofs.table.blank.Lts as lts
-use Rattle.memory.proofs.checks.zero.Reads as zero-reads
 
 -- src/table.rt:36:9
 zero-requires : tie.Need-zero-requires

@@ -1,0 +1,35 @@
+-- The plain data of its own that the runner's walks carry, and the fields of a place and of a run.
+use mathlib.Core.List.{[], _∷_}
+use denote.Laws.{Is}
+use denote.Struct.Laws as SL
+use denote.Enum.Laws as EL
+use Rattle.day_runner.specs.declared.records.Place.{Place}
+use Rattle.day_runner.specs.declared.records.Running.{Running}
+use Rattle.day_runner.proofs.records.Place as P
+use Rattle.day_runner.proofs.records.Place.Laws as P′
+use Rattle.day_runner.proofs.records.Running as R
+use Rattle.day_runner.proofs.records.Running.Laws as R′
+use Rattle.dayfile.proofs.Reading as X
+use Rattle.dayfile.proofs.Reading.Laws as X′
+use Rattle.memory.proofs.Walks.{Data, spelled, a-day}
+use Rattle.memory.proofs.LocalTable.{Table, a-table, table-as}
+
+abbrev pub a-place : Data
+a-place = record { row = P.the-row; val = P′.lowered; told = P′.lowers .val-is; made = λ 𝓤 H A W. SL.makes P.the-type P′.the-plain 𝓤 H A; lawful = SL.lawful P.the-type P′.the-laws }
+
+abbrev pub a-running : Data
+a-running = record { row = R.the-row; val = R′.lowered; told = R′.lowers .val-is; made = λ 𝓤 H A W. SL.makes R.the-type R′.the-plain 𝓤 H A; lawful = SL.lawful R.the-type R′.the-laws }
+
+abbrev pub a-reading : Data
+a-reading = record { row = X.the-row; val = X′.lowered; told = X′.lowers .val-is; made = λ 𝓤 H A W. EL.makes X.the-type X′.the-plain 𝓤 H A; lawful = λ 𝓤 H A W. EL.lawful X.the-type X′.the-laws 𝓤 H A W tt }
+
+-- the fields of a place and of a run
+pub day-of : (p : Place) → Is (a-place .row) p (a-place .val p ∷ []) → Is (a-day .row) (p .day) (a-day .val (p .day) ∷ [])
+day-of p is = spelled a-day (p .day) _ (is .1 .1 .0)
+
+module _ (r : Running) (is : Is (a-running .row) r (a-running .val r ∷ [])) where
+  pub place-of : Is (a-place .row) (r .place) (a-place .val (r .place) ∷ [])
+  place-of = spelled a-place (r .place) _ (is .1 .1 .0)
+
+  pub table-of : Is Table (r .table) (a-table .val (r .table) ∷ [])
+  table-of = spelled a-table (r .table) _ (table-as (r .table) _ (is .1 .1 .1 .0))

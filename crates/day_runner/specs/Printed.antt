@@ -1,0 +1,41 @@
+-- What the day runner prints (document 01, Day files and the day runner): the line of a record and its answer, and those of the end.
+use Prim.Native.Nat.{ℕ}
+use mathlib.Core.Bool.{Bool, true, false}
+use Rattle.snapshot.specs.Refusals.{numberOf}
+use Rattle.snapshot.specs.Requests.{numberIn}
+use Rattle.snapshot.specs.declared.Request.{Request}
+use Rattle.snapshot.specs.declared.Request.the-variants as Asked
+use Rattle.snapshot.specs.declared.Answer.{Answer}
+use Rattle.snapshot.specs.declared.Answer.the-variants as Told
+use Rattle.dayfile.specs.declared.Reading.{Reading}
+use Rattle.dayfile.specs.declared.Reading.the-variants.{Found, End, Refused}
+use Rattle.daytext.specs.declared.Line.{Line}
+use Rattle.daytext.specs.declared.Line.the-variants as Printed
+use Rattle.memory.specs.declared.Outcome.{Outcome}
+
+-- the line of an accepted call, with its event number ("entry", "asked"); only a call has one
+abbrev pub callLine : ℕ → Request → Line
+callLine e (Asked.Open k) = Printed.Opened k
+callLine e (Asked.Update d w) = Printed.Update e d w
+callLine e (Asked.Scan d) = Printed.Scan e d
+callLine e (Asked.Turn d) = Printed.Read e d
+
+-- the line of a request by its answer, with the event number afterwards
+abbrev pub answerLine : Request → ℕ → Answer → Line
+answerLine x e (Told.Refused k) = Printed.Refused (numberOf k)
+answerLine x e Told.Opened = Printed.Opened (numberIn x)
+answerLine x e Told.Called = callLine e x
+answerLine x e Told.Read = Printed.Read e (numberIn x)
+answerLine x e (Told.Page lender at turns) = Printed.Page e (numberIn x) lender at turns
+answerLine x e (Told.Written turns) = Printed.Written e (numberIn x) turns
+
+-- the line of what was read, where asking it had outcome o: "Refusals 7, 8 and 9 end the file", "then `end` and the event number"
+abbrev pub lineOf : Outcome → Reading → Line
+lineOf o (Found x next) = answerLine x (o .day .event) (o .answer)
+lineOf o End = Printed.End (o .day .event)
+lineOf o (Refused k) = Printed.Refused (numberOf k)
+
+abbrev pub isEnd : Reading → Bool
+isEnd (Found x next) = false
+isEnd End = true
+isEnd (Refused k) = false
