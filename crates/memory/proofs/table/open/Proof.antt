@@ -54,23 +54,18 @@ use Rattle.memory.proofs.Walks.{Row, Lent, held, dropped, also, a-u32, 
 use Rattle.memory.proofs.Calls.{lent-of, calls-lent, calls-data, calls-is}
 use Rattle.memory.proofs.checks.open_check as g₁
 use Rattle.memory.proofs.checks.open_check.Symbol as g₁-def
-use Rattle.memory.proofs.checks.open_check.Symbol.{name as #g₁}
 use Rattle.memory.proofs.checks.open_check.Met as g₁-thm
 use Rattle.memory.proofs.checks.is_refused as g₂
 use Rattle.memory.proofs.checks.is_refused.Symbol as g₂-def
-use Rattle.memory.proofs.checks.is_refused.Symbol.{name as #g₂}
 use Rattle.memory.proofs.checks.is_refused.Met as g₂-thm
 use Rattle.memory.proofs.checks.refused as g₃
 use Rattle.memory.proofs.checks.refused.Symbol as g₃-def
-use Rattle.memory.proofs.checks.refused.Symbol.{name as #g₃}
 use Rattle.memory.proofs.checks.refused.Met as g₃-thm
 use Rattle.memory.proofs.table.clear_all as g₄
 use Rattle.memory.proofs.table.clear_all.Symbol as g₄-def
-use Rattle.memory.proofs.table.clear_all.Symbol.{name as #g₄}
 use Rattle.memory.proofs.table.clear_all.Met as g₄-thm
 use Rattle.memory.proofs.checks.opened as g₅
 use Rattle.memory.proofs.checks.opened.Symbol as g₅-def
-use Rattle.memory.proofs.checks.opened.Symbol.{name as #g₅}
 use Rattle.memory.proofs.checks.opened.Met as g₅-thm
 use Rattle.memory.proofs.table.open.Key.{name as #f}
 use Rattle.memory.proofs.table.open as f
@@ -155,7 +150,7 @@ module _ {M : Type 1} (𝓤 : URA M) (H : Heap 𝓤) (A : Atoms 𝓤) (W : Given
       owned ! (an-outcome .row) (Is (an-outcome .row)) (an-outcome .made 𝓤 H A W) r (an-outcome .val r ∷ []) is $ done !
 
   module _ (C : Calls 𝓤 H) (Λ : Loops 𝓤 H) (fm : FmC 𝓤 H (W .laws) C)
-      (known₁ : Triple 𝓤 (C #g₁) (G₁ 𝓤 H A mem run)) (known₂ : Triple 𝓤 (C #g₂) (G₂ 𝓤 H A mem run)) (known₃ : Triple 𝓤 (C #g₃) (G₃ 𝓤 H A mem run)) (known₄ : Triple 𝓤 (C #g₄) (G₄ 𝓤 H A mem run)) (known₅ : Triple 𝓤 (C #g₅) (G₅ 𝓤 H A mem run)) where
+      (known₁ : Triple 𝓤 (C g₁-def.name) (G₁ 𝓤 H A mem run)) (known₂ : Triple 𝓤 (C g₂-def.name) (G₂ 𝓤 H A mem run)) (known₃ : Triple 𝓤 (C g₃-def.name) (G₃ 𝓤 H A mem run)) (known₄ : Triple 𝓤 (C g₄-def.name) (G₄ 𝓤 H A mem run)) (known₅ : Triple 𝓤 (C g₅-def.name) (G₅ 𝓤 H A mem run)) where
     walk : ent 𝓤 (onEntry 𝓤 H A f.signature (κ, tt) (q, tt) x at) (WpFn 𝓤 H C Λ code.function (a-day .val day ∷ sliceVal (b, o) (length ys) ∷ vint w32 k ∷ []) Post)
     walk =
         qed W ((‵ (flft κ q) ⊛ ‵ ftrue) ∷ ‵ (owns (a-day .row ∷ MutSlice (named 0) κ Row ∷ u32 ∷ []) x at) ∷ []) ∵ split ! $ move ! (2 ∷ []) $ fsplit ! $ drop ! $ fsplit ! $ taken ! Row b o γ ys $ keep ! (0 ∷ 1 ∷ 3 ∷ []) $
@@ -194,7 +189,7 @@ module _ {M : Type 1} (𝓤 : URA M) (H : Heap 𝓤) (A : Atoms 𝓤) (W : Given
         by ! (exits r zs (e₅ ∙ w .0) (e₄ ∙ w .1) l is₅))))))))))))))))
 
 module _ {M : Type 1} (𝓤 : URA M) (H : Heap 𝓤) (A : Atoms 𝓤) (W : Given 𝓤 H A) (mem : Memory → SProp 𝓤) (run : Routine → Fun 𝓤) (𝓣 : Tables 𝓤 H)
-    (known₁ : Triple 𝓤 (𝓣 .C #g₁) (G₁ 𝓤 H A mem run)) (known₂ : Triple 𝓤 (𝓣 .C #g₂) (G₂ 𝓤 H A mem run)) (known₃ : Triple 𝓤 (𝓣 .C #g₃) (G₃ 𝓤 H A mem run)) (known₄ : Triple 𝓤 (𝓣 .C #g₄) (G₄ 𝓤 H A mem run)) (known₅ : Triple 𝓤 (𝓣 .C #g₅) (G₅ 𝓤 H A mem run)) where
+    (known₁ : Triple 𝓤 (𝓣 .C g₁-def.name) (G₁ 𝓤 H A mem run)) (known₂ : Triple 𝓤 (𝓣 .C g₂-def.name) (G₂ 𝓤 H A mem run)) (known₃ : Triple 𝓤 (𝓣 .C g₃-def.name) (G₃ 𝓤 H A mem run)) (known₄ : Triple 𝓤 (𝓣 .C g₄-def.name) (G₄ 𝓤 H A mem run)) (known₅ : Triple 𝓤 (𝓣 .C g₅-def.name) (G₅ 𝓤 H A mem run)) where
   meets : Meets 𝓤 H A f.signature (WpFn 𝓤 H (𝓣 .C) (𝓣 .Λ) code.function) (f.spec 𝓤 H A mem run)
   meets = walk-meets 𝓤 H A f.ended stayed W (goes-dropped 𝓤 H A W 1 (plain (λ _. a-day .row)) yes (λ κs x f. refl), (goes-slice 𝓤 H A W 1 0 tt Lent, (goes-dropped 𝓤 H A W 1 (plain (λ _. u32)) yes (λ κs x f. refl), tt))) (f.clauses 𝓤 H A mem run)
       (WpFn 𝓤 H (𝓣 .C) (𝓣 .Λ) code.function) (WpFn-mono 𝓤 H (W .laws) 𝓣 code.function)
@@ -210,8 +205,8 @@ open-spec 𝓤 H 𝓜 𝓖 𝓡 =
     entered 𝓤 H (tripleOf 𝓤 H (𝓖 .A) f.signature (f.spec 𝓤 H (𝓖 .A) (𝓜 .mem) (𝓡 .run)))
     (tables 𝓤 H 𝓜 𝓡 code.env .C) (tables 𝓤 H 𝓜 𝓡 code.env .Λ) #f code.function (code.unfolded 𝓤 H 𝓜 𝓡)
     (meets 𝓤 H (𝓖 .A) (givenOf 𝓤 H 𝓜 𝓖) (𝓜 .mem) (𝓡 .run) (tablesOf 𝓤 H 𝓜 (tables 𝓤 H 𝓜 𝓡 code.env))
-    (cited 𝓤 H (G₁ 𝓤 H (𝓖 .A) (𝓜 .mem) (𝓡 .run)) 𝓜 𝓡 code.env #g₁ g₁-def.routine code.calls-memory·checks·open-check (g₁-thm.met 𝓤 H 𝓜 𝓖 𝓡))
-    (cited 𝓤 H (G₂ 𝓤 H (𝓖 .A) (𝓜 .mem) (𝓡 .run)) 𝓜 𝓡 code.env #g₂ g₂-def.routine code.calls-memory·checks·is-refused (g₂-thm.met 𝓤 H 𝓜 𝓖 𝓡))
-    (cited 𝓤 H (G₃ 𝓤 H (𝓖 .A) (𝓜 .mem) (𝓡 .run)) 𝓜 𝓡 code.env #g₃ g₃-def.routine code.calls-memory·checks·refused (g₃-thm.met 𝓤 H 𝓜 𝓖 𝓡))
-    (cited 𝓤 H (G₄ 𝓤 H (𝓖 .A) (𝓜 .mem) (𝓡 .run)) 𝓜 𝓡 code.env #g₄ g₄-def.routine code.calls-memory·table·clear-all (g₄-thm.met 𝓤 H 𝓜 𝓖 𝓡))
-    (cited 𝓤 H (G₅ 𝓤 H (𝓖 .A) (𝓜 .mem) (𝓡 .run)) 𝓜 𝓡 code.env #g₅ g₅-def.routine code.calls-memory·checks·opened (g₅-thm.met 𝓤 H 𝓜 𝓖 𝓡)))
+    (cited 𝓤 H (G₁ 𝓤 H (𝓖 .A) (𝓜 .mem) (𝓡 .run)) 𝓜 𝓡 code.env g₁-def.name g₁-def.routine code.calls-memory·checks·open-check (g₁-thm.met 𝓤 H 𝓜 𝓖 𝓡))
+    (cited 𝓤 H (G₂ 𝓤 H (𝓖 .A) (𝓜 .mem) (𝓡 .run)) 𝓜 𝓡 code.env g₂-def.name g₂-def.routine code.calls-memory·checks·is-refused (g₂-thm.met 𝓤 H 𝓜 𝓖 𝓡))
+    (cited 𝓤 H (G₃ 𝓤 H (𝓖 .A) (𝓜 .mem) (𝓡 .run)) 𝓜 𝓡 code.env g₃-def.name g₃-def.routine code.calls-memory·checks·refused (g₃-thm.met 𝓤 H 𝓜 𝓖 𝓡))
+    (cited 𝓤 H (G₄ 𝓤 H (𝓖 .A) (𝓜 .mem) (𝓡 .run)) 𝓜 𝓡 code.env g₄-def.name g₄-def.routine code.calls-memory·table·clear-all (g₄-thm.met 𝓤 H 𝓜 𝓖 𝓡))
+    (cited 𝓤 H (G₅ 𝓤 H (𝓖 .A) (𝓜 .mem) (𝓡 .run)) 𝓜 𝓡 code.env g₅-def.name g₅-def.routine code.calls-memory·checks·opened (g₅-thm.met 𝓤 H 𝓜 𝓖 𝓡)))

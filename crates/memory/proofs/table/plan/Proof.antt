@@ -52,31 +52,24 @@ use Rattle.memory.proofs.Walks.{Row, Shared, dropped, also, a-u32, a-us
 use Rattle.memory.proofs.Calls.{shared-own, calls-data, calls-passed, calls-is}
 use Rattle.unbounded.proofs.most_reads as g₁
 use Rattle.unbounded.proofs.most_reads.Symbol as g₁-def
-use Rattle.unbounded.proofs.most_reads.Symbol.{name as #g₁}
 use Rattle.unbounded.proofs.most_reads.Met as g₁-thm
 use Rattle.memory.proofs.table.some_bad as g₂
 use Rattle.memory.proofs.table.some_bad.Symbol as g₂-def
-use Rattle.memory.proofs.table.some_bad.Symbol.{name as #g₂}
 use Rattle.memory.proofs.table.some_bad.Met as g₂-thm
 use Rattle.memory.proofs.checks.first_check as g₃
 use Rattle.memory.proofs.checks.first_check.Symbol as g₃-def
-use Rattle.memory.proofs.checks.first_check.Symbol.{name as #g₃}
 use Rattle.memory.proofs.checks.first_check.Met as g₃-thm
 use Rattle.memory.proofs.checks.is_refused as g₄
 use Rattle.memory.proofs.checks.is_refused.Symbol as g₄-def
-use Rattle.memory.proofs.checks.is_refused.Symbol.{name as #g₄}
 use Rattle.memory.proofs.checks.is_refused.Met as g₄-thm
 use Rattle.memory.proofs.checks.index_of as g₅
 use Rattle.memory.proofs.checks.index_of.Symbol as g₅-def
-use Rattle.memory.proofs.checks.index_of.Symbol.{name as #g₅}
 use Rattle.memory.proofs.checks.index_of.Met as g₅-thm
 use Rattle.memory.proofs.table.task_at as g₆
 use Rattle.memory.proofs.table.task_at.Symbol as g₆-def
-use Rattle.memory.proofs.table.task_at.Symbol.{name as #g₆}
 use Rattle.memory.proofs.table.task_at.Met as g₆-thm
 use Rattle.memory.proofs.checks.state_check as g₇
 use Rattle.memory.proofs.checks.state_check.Symbol as g₇-def
-use Rattle.memory.proofs.checks.state_check.Symbol.{name as #g₇}
 use Rattle.memory.proofs.checks.state_check.Met as g₇-thm
 use Rattle.memory.proofs.table.plan.Key.{name as #f}
 use Rattle.memory.proofs.table.plan as f
@@ -182,7 +175,7 @@ module _ {M : Type 1} (𝓤 : URA M) (H : Heap 𝓤) (A : Atoms 𝓤) (W : Given
       owned ! (a-check .row) (Is (a-check .row)) (a-check .made 𝓤 H A W) r (a-check .val r ∷ []) is $ dropped ! 5 $ nothing ! $ move ! (3 ∷ 0 ∷ []) $ join ! $ frame ! $ frame ! $ done !
 
   module _ (C : Calls 𝓤 H) (Λ : Loops 𝓤 H) (fm : FmC 𝓤 H (W .laws) C)
-      (known₁ : Triple 𝓤 (C #g₁) (G₁ 𝓤 H A mem run)) (known₂ : Triple 𝓤 (C #g₂) (G₂ 𝓤 H A mem run)) (known₃ : Triple 𝓤 (C #g₃) (G₃ 𝓤 H A mem run)) (known₄ : Triple 𝓤 (C #g₄) (G₄ 𝓤 H A mem run)) (known₅ : Triple 𝓤 (C #g₅) (G₅ 𝓤 H A mem run)) (known₆ : Triple 𝓤 (C #g₆) (G₆ 𝓤 H A mem run)) (known₇ : Triple 𝓤 (C #g₇) (G₇ 𝓤 H A mem run)) where
+      (known₁ : Triple 𝓤 (C g₁-def.name) (G₁ 𝓤 H A mem run)) (known₂ : Triple 𝓤 (C g₂-def.name) (G₂ 𝓤 H A mem run)) (known₃ : Triple 𝓤 (C g₃-def.name) (G₃ 𝓤 H A mem run)) (known₄ : Triple 𝓤 (C g₄-def.name) (G₄ 𝓤 H A mem run)) (known₅ : Triple 𝓤 (C g₅-def.name) (G₅ 𝓤 H A mem run)) (known₆ : Triple 𝓤 (C g₆-def.name) (G₆ 𝓤 H A mem run)) (known₇ : Triple 𝓤 (C g₇-def.name) (G₇ 𝓤 H A mem run)) where
     walk : ent 𝓤 (onEntry 𝓤 H A f.signature (κ, tt) (q, tt) x at) (WpFn 𝓤 H C Λ code.function (a-day .val day ∷ sliceVal (b, o) (length ys) ∷ vbool short ∷ vint w32 d ∷ vbool call ∷ []) Post)
     walk =
         qed W ((‵ (flft κ q) ⊛ ‵ ftrue) ∷ ‵ (owns (a-day .row ∷ ShrSlice (named 0) κ Row ∷ bool ∷ u32 ∷ bool ∷ []) x at) ∷ []) ∵ split ! $ move ! (2 ∷ []) $ fsplit ! $ drop ! $ fsplit ! $ keep ! (2 ∷ 0 ∷ []) $
@@ -224,7 +217,7 @@ module _ {M : Type 1} (𝓤 : URA M) (H : Heap 𝓤) (A : Atoms 𝓤) (W : Given
         keep ! (0 ∷ []) $ by ! (exits r (passed-is here i k r e₅ e₆ e₇) is₇)))))))))))))))))))))
 
 module _ {M : Type 1} (𝓤 : URA M) (H : Heap 𝓤) (A : Atoms 𝓤) (W : Given 𝓤 H A) (mem : Memory → SProp 𝓤) (run : Routine → Fun 𝓤) (𝓣 : Tables 𝓤 H)
-    (known₁ : Triple 𝓤 (𝓣 .C #g₁) (G₁ 𝓤 H A mem run)) (known₂ : Triple 𝓤 (𝓣 .C #g₂) (G₂ 𝓤 H A mem run)) (known₃ : Triple 𝓤 (𝓣 .C #g₃) (G₃ 𝓤 H A mem run)) (known₄ : Triple 𝓤 (𝓣 .C #g₄) (G₄ 𝓤 H A mem run)) (known₅ : Triple 𝓤 (𝓣 .C #g₅) (G₅ 𝓤 H A mem run)) (known₆ : Triple 𝓤 (𝓣 .C #g₆) (G₆ 𝓤 H A mem run)) (known₇ : Triple 𝓤 (𝓣 .C #g₇) (G₇ 𝓤 H A mem run)) where
+    (known₁ : Triple 𝓤 (𝓣 .C g₁-def.name) (G₁ 𝓤 H A mem run)) (known₂ : Triple 𝓤 (𝓣 .C g₂-def.name) (G₂ 𝓤 H A mem run)) (known₃ : Triple 𝓤 (𝓣 .C g₃-def.name) (G₃ 𝓤 H A mem run)) (known₄ : Triple 𝓤 (𝓣 .C g₄-def.name) (G₄ 𝓤 H A mem run)) (known₅ : Triple 𝓤 (𝓣 .C g₅-def.name) (G₅ 𝓤 H A mem run)) (known₆ : Triple 𝓤 (𝓣 .C g₆-def.name) (G₆ 𝓤 H A mem run)) (known₇ : Triple 𝓤 (𝓣 .C g₇-def.name) (G₇ 𝓤 H A mem run)) where
   meets : Meets 𝓤 H A f.signature (WpFn 𝓤 H (𝓣 .C) (𝓣 .Λ) code.function) (f.spec 𝓤 H A mem run)
   meets = walk-meets 𝓤 H A f.ended stayed W (goes-dropped 𝓤 H A W 1 (plain (λ _. a-day .row)) yes (λ κs x f. refl), (goes-dropped 𝓤 H A W 1 Shared yes (λ κs x f. refl), (goes-dropped 𝓤 H A W 1 (plain (λ _. bool)) yes (λ κs x f. refl), (goes-dropped 𝓤 H A W 1 (plain (λ _. u32)) yes (λ κs x f. refl), (goes-dropped 𝓤 H A W 1 (plain (λ _. bool)) yes (λ κs x f. refl), tt))))) (f.clauses 𝓤 H A mem run)
       (WpFn 𝓤 H (𝓣 .C) (𝓣 .Λ) code.function) (WpFn-mono 𝓤 H (W .laws) 𝓣 code.function)
@@ -240,10 +233,10 @@ plan-spec 𝓤 H 𝓜 𝓖 𝓡 =
     entered 𝓤 H (tripleOf 𝓤 H (𝓖 .A) f.signature (f.spec 𝓤 H (𝓖 .A) (𝓜 .mem) (𝓡 .run)))
     (tables 𝓤 H 𝓜 𝓡 code.env .C) (tables 𝓤 H 𝓜 𝓡 code.env .Λ) #f code.function (code.unfolded 𝓤 H 𝓜 𝓡)
     (meets 𝓤 H (𝓖 .A) (givenOf 𝓤 H 𝓜 𝓖) (𝓜 .mem) (𝓡 .run) (tablesOf 𝓤 H 𝓜 (tables 𝓤 H 𝓜 𝓡 code.env))
-    (cited 𝓤 H (G₁ 𝓤 H (𝓖 .A) (𝓜 .mem) (𝓡 .run)) 𝓜 𝓡 code.env #g₁ g₁-def.routine code.calls-unbounded·most-reads (g₁-thm.met 𝓤 H 𝓜 𝓖 𝓡))
-    (cited 𝓤 H (G₂ 𝓤 H (𝓖 .A) (𝓜 .mem) (𝓡 .run)) 𝓜 𝓡 code.env #g₂ g₂-def.routine code.calls-memory·table·some-bad (g₂-thm.met 𝓤 H 𝓜 𝓖 𝓡))
-    (cited 𝓤 H (G₃ 𝓤 H (𝓖 .A) (𝓜 .mem) (𝓡 .run)) 𝓜 𝓡 code.env #g₃ g₃-def.routine code.calls-memory·checks·first-check (g₃-thm.met 𝓤 H 𝓜 𝓖 𝓡))
-    (cited 𝓤 H (G₄ 𝓤 H (𝓖 .A) (𝓜 .mem) (𝓡 .run)) 𝓜 𝓡 code.env #g₄ g₄-def.routine code.calls-memory·checks·is-refused (g₄-thm.met 𝓤 H 𝓜 𝓖 𝓡))
-    (cited 𝓤 H (G₅ 𝓤 H (𝓖 .A) (𝓜 .mem) (𝓡 .run)) 𝓜 𝓡 code.env #g₅ g₅-def.routine code.calls-memory·checks·index-of (g₅-thm.met 𝓤 H 𝓜 𝓖 𝓡))
-    (cited 𝓤 H (G₆ 𝓤 H (𝓖 .A) (𝓜 .mem) (𝓡 .run)) 𝓜 𝓡 code.env #g₆ g₆-def.routine code.calls-memory·table·task-at (g₆-thm.met 𝓤 H 𝓜 𝓖 𝓡))
-    (cited 𝓤 H (G₇ 𝓤 H (𝓖 .A) (𝓜 .mem) (𝓡 .run)) 𝓜 𝓡 code.env #g₇ g₇-def.routine code.calls-memory·checks·state-check (g₇-thm.met 𝓤 H 𝓜 𝓖 𝓡)))
+    (cited 𝓤 H (G₁ 𝓤 H (𝓖 .A) (𝓜 .mem) (𝓡 .run)) 𝓜 𝓡 code.env g₁-def.name g₁-def.routine code.calls-unbounded·most-reads (g₁-thm.met 𝓤 H 𝓜 𝓖 𝓡))
+    (cited 𝓤 H (G₂ 𝓤 H (𝓖 .A) (𝓜 .mem) (𝓡 .run)) 𝓜 𝓡 code.env g₂-def.name g₂-def.routine code.calls-memory·table·some-bad (g₂-thm.met 𝓤 H 𝓜 𝓖 𝓡))
+    (cited 𝓤 H (G₃ 𝓤 H (𝓖 .A) (𝓜 .mem) (𝓡 .run)) 𝓜 𝓡 code.env g₃-def.name g₃-def.routine code.calls-memory·checks·first-check (g₃-thm.met 𝓤 H 𝓜 𝓖 𝓡))
+    (cited 𝓤 H (G₄ 𝓤 H (𝓖 .A) (𝓜 .mem) (𝓡 .run)) 𝓜 𝓡 code.env g₄-def.name g₄-def.routine code.calls-memory·checks·is-refused (g₄-thm.met 𝓤 H 𝓜 𝓖 𝓡))
+    (cited 𝓤 H (G₅ 𝓤 H (𝓖 .A) (𝓜 .mem) (𝓡 .run)) 𝓜 𝓡 code.env g₅-def.name g₅-def.routine code.calls-memory·checks·index-of (g₅-thm.met 𝓤 H 𝓜 𝓖 𝓡))
+    (cited 𝓤 H (G₆ 𝓤 H (𝓖 .A) (𝓜 .mem) (𝓡 .run)) 𝓜 𝓡 code.env g₆-def.name g₆-def.routine code.calls-memory·table·task-at (g₆-thm.met 𝓤 H 𝓜 𝓖 𝓡))
+    (cited 𝓤 H (G₇ 𝓤 H (𝓖 .A) (𝓜 .mem) (𝓡 .run)) 𝓜 𝓡 code.env g₇-def.name g₇-def.routine code.calls-memory·checks·state-check (g₇-thm.met 𝓤 H 𝓜 𝓖 𝓡)))
