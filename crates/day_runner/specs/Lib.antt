@@ -1,3 +1,4 @@
--- What the day runner keeps true of its input buffer, and what it prints.
+-- What the day runner keeps true of its input buffer, what it asks, and what it prints.
 pub mod Input
+pub mod Records
 pub mod Printed

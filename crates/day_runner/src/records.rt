@@ -14,6 +14,7 @@ ghost use mathlib.Core.Bool.{true};
 ghost use Prim.Native.Nat.{_+_, _≤_, _<_};
 ghost use lib.ListN.{length};
 ghost use Rattle.day_runner.specs.Input.{Within, Ends};
+ghost use Rattle.day_runner.specs.Records.{isNone, requestOf, unaskedOf, askedOutcome, askedTable, askedPage};
 
 // The longest record, in bytes.
 const WHOLE: usize = 10;
@@ -146,7 +147,9 @@ fn next_of(at: Place, bytes: &[u8]) -> Reading
 }
 
 // Whether no record was found.
-fn is_none(x: Reading) -> bool {
+fn is_none(x: Reading) -> bool
+    ensures { λ b. ⌜ b ≡ isNone x ⌝ }
+{
     match x {
         Reading::Found { record: _, next: _ } => false,
         Reading::End => true,
@@ -155,7 +158,9 @@ fn is_none(x: Reading) -> bool {
 }
 
 // The request that was found, if one was.
-fn request_of(x: Reading) -> Request {
+fn request_of(x: Reading) -> Request
+    ensures { λ r. ⌜ r ≡ requestOf x ⌝ }
+{
     match x {
         Reading::Found { record, next: _ } => record,
         Reading::End => Request::Turn(0),
@@ -180,7 +185,9 @@ fn lent_to(day: Day, x: Request) -> usize
 }
 
 // Nothing is asked: the day stays.
-fn unasked(day: Day) -> Outcome {
+fn unasked(day: Day) -> Outcome
+    ensures { λ o. ⌜ o ≡ unaskedOf day ⌝ }
+{
     Outcome {
         day,
         answer: Answer::Read,
@@ -188,7 +195,11 @@ fn unasked(day: Day) -> Outcome {
 }
 
 // What was read is asked of the table; where no record was found, nothing.
-fn asked(day: Day, ps: &mut [Process], x: Reading, page: &mut [u32]) -> Outcome {
+fn asked(day: Day, ps: &mut [Process], x: Reading, page: &mut [u32]) -> Outcome
+    ensures { λ o. ⌜ o ≡ askedOutcome day (now (ps .entry)) (now (page .entry)) x ⌝ }
+    ensures { λ o. ⌜ now (ps .exit) ≡ askedTable day (now (ps .entry)) (now (page .entry)) x ⌝ }
+    ensures { λ o. ⌜ now (page .exit) ≡ askedPage day (now (ps .entry)) (now (page .entry)) x ⌝ }
+{
     if is_none(x) {
         return unasked(day);
     }
