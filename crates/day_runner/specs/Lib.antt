@@ -1,4 +1,5 @@
--- What the day runner keeps true of its input buffer, what it asks, and what it prints.
+-- What the day runner keeps true of its input buffer, what it asks, what it prints, and its rounds.
 pub mod Input
 pub mod Records
 pub mod Printed
+pub mod Rounds

@@ -10,17 +10,19 @@ use snapshot::Request;
 use unbounded::Day;
 use unbounded::Process;
 ghost use mathlib.Core.Path.{_≡_};
-ghost use mathlib.Core.Bool.{true};
 ghost use Prim.Native.Nat.{_+_, _≤_, _<_};
-ghost use lib.ListN.{length};
+ghost use lib.ListN.{length, take};
+ghost use Rattle.daytext.specs.Buffer.{laidPlace, laidText};
 ghost use Rattle.day_runner.specs.Input.{Within, Ends};
 ghost use Rattle.day_runner.specs.Records.{isNone, requestOf, unaskedOf, askedOutcome, askedTable, askedPage};
+ghost use Rattle.day_runner.specs.Printed.{lineOf};
+ghost use Rattle.day_runner.specs.Rounds.{hasRoom, goes, nextIn, lentTo, placePast, ran};
 
 // The longest record, in bytes.
 const WHOLE: usize = 10;
 
-// Where a run stands: the day, the input, how much of the output is laid, whether all is done, and how many records at most are
-// run before the output is looked at again.
+// Where a run stands: the day, the input, how much of the output is laid, whether all is done, and how many rounds there can still
+// be on this input.
 pub struct Place {
     pub day: Day,
     pub input: Input,
@@ -36,7 +38,7 @@ pub struct Running {
 }
 
 fn with_table(place: Place, table: [Process; 8]) -> Running
-    ensures { λ x. ⌜ x .place ≡ place ⌝ }
+    ensures { λ x. ⌜ (x .place ≡ place) × (x .table ≡ table) ⌝ }
 {
     Running { place, table }
 }
@@ -61,7 +63,9 @@ pub fn start() -> Running
 }
 
 // Whether the output has room for the line of a record and the last two.
-fn has_room(at: Place, room: usize) -> bool {
+fn has_room(at: Place, room: usize) -> bool
+    ensures { λ b. ⌜ b ≡ hasRoom at room ⌝ }
+{
     if room < at.written {
         return false;
     }
@@ -114,7 +118,7 @@ pub fn refilled(r: Running, input: Input, size: usize) -> Running
 
 // Whether the next record can be run: it lies whole in the input, and the output has room.
 fn can_go(at: Place, room: usize) -> bool
-    ensures { λ b. ⌜ (b ≡ true → 0 < at .left) ⌝ }
+    ensures { λ b. ⌜ b ≡ goes at room ⌝ }
 {
     let input = at.input;
     if at.left == 0 {
@@ -138,7 +142,7 @@ fn can_go(at: Place, room: usize) -> bool
 // The next record of the input, or how it ends.
 fn next_of(at: Place, bytes: &[u8]) -> Reading
     requires { ⌜ Within (at .input) (length (now bytes)) ⌝ }
-    ensures { λ x. ⌜ Ends x (at .input) ⌝ }
+    ensures { λ x. ⌜ (x ≡ nextIn (at .input) (now (bytes .entry))) × Ends x (at .input) ⌝ }
 {
     let input = at.input;
     let start = input.at;
@@ -170,7 +174,7 @@ fn request_of(x: Reading) -> Request
 
 // How many records of the table are lent to a request: an opening's count, else the day's.
 fn lent_to(day: Day, x: Request) -> usize
-    ensures { λ n. ⌜ n ≤ 8 ⌝ }
+    ensures { λ n. ⌜ n ≡ lentTo day x ⌝ }
 {
     let n = match x {
         Request::Open(count) => count,
@@ -209,7 +213,8 @@ fn asked(day: Day, ps: &mut [Process], x: Reading, page: &mut [u32]) -> Outcome
 // The place once the line of what was read is laid. A refusal ends the file, and then its end is read.
 fn past(at: Place, x: Reading, o: Outcome, page: &[u32], out: &mut [u8]) -> Place
     requires { ⌜ Ends x (at .input) × (0 < at .left) ⌝ }
-    ensures { λ p. ⌜ (p .input .at ≤ p .input .end) × (p .input .end ≡ at .input .end) × (p .left < at .left) ⌝ }
+    ensures { λ p. ⌜ p ≡ placePast at o (laidPlace (lineOf o x) (take (o .day .count) (now (page .entry))) (now (out .entry)) (at .written)) x ⌝ }
+    ensures { λ p. ⌜ now (out .exit) ≡ laidText (lineOf o x) (take (o .day .count) (now (page .entry))) (now (out .entry)) (at .written) ⌝ }
 {
     let input = at.input;
     let day = o.day;
@@ -245,6 +250,10 @@ fn past(at: Place, x: Reading, o: Outcome, page: &[u32], out: &mut [u8]) -> Plac
 pub fn run(r: Running, bytes: &[u8], out: &mut [u8], page: &mut [u32]) -> Running
     requires { ⌜ Within (r .place .input) (length (now bytes)) ⌝ }
     ensures { λ x. ⌜ Within (x .place .input) (length (now (bytes .entry))) ⌝ }
+    ensures { λ x. ⌜ x .place ≡ ran r (now (bytes .entry)) (now (page .entry)) (now (out .entry)) .place ⌝ }
+    ensures { λ x. ⌜ x .table ≡ ran r (now (bytes .entry)) (now (page .entry)) (now (out .entry)) .table ⌝ }
+    ensures { λ x. ⌜ now (out .exit) ≡ ran r (now (bytes .entry)) (now (page .entry)) (now (out .entry)) .out ⌝ }
+    ensures { λ x. ⌜ now (page .exit) ≡ ran r (now (bytes .entry)) (now (page .entry)) (now (out .entry)) .page ⌝ }
 {
     let mut table = r.table;
     let mut place = r.place;

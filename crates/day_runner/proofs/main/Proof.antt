@@ -12,19 +12,15 @@ Inv-loop bytes₀ out₀ ran₀ passes₀ bytes out ran passes = Within (ran .pl
 abbrev μ-loop : tie.MeasureT-loop
 μ-loop bytes₀ out₀ ran₀ passes₀ bytes out ran passes = passes
 
--- src/main.rt:38:21
 large-buffer-requires : tie.Need-large-buffer-requires Inv-loop μ-loop
 large-buffer-requires c κs = tt
 
--- src/main.rt:39:19
 large-buffer-requires-2 : tie.Need-large-buffer-requires-2 Inv-loop μ-loop
 large-buffer-requires-2 c κs = tt
 
--- src/main.rt:40:9
 start-requires : tie.Need-start-requires Inv-loop μ-loop
 start-requires c κs = tt
 
--- src/main.rt:42:5
 loop-holds : tie.Need-loop-holds Inv-loop μ-loop
 loop-holds c = (
   record { start = c .start .ensures .start; stop = let s = c .start .ensures .stop in omega arith },
@@ -32,35 +28,27 @@ loop-holds c = (
   c .before .large-buffer2 .ensures,
 )
 
--- src/main.rt:43:25
 slice-aggregate-pass : tie.Need-slice-aggregate-pass Inv-loop μ-loop
 slice-aggregate-pass c = c .before .before .before .before .loop .inv .1
 
--- src/main.rt:43:37
 slice-aggregate-pass-2 : tie.Need-slice-aggregate-pass-2 Inv-loop μ-loop
 slice-aggregate-pass-2 c = c .before .before .before .before .before .loop .inv .2
 
--- src/main.rt:43:9
 pass-requires : tie.Need-pass-requires Inv-loop μ-loop
 pass-requires c κs = c .before .before .before .before .before .loop .inv .0
 
--- src/main.rt:44:9
 sub-passes : tie.Need-sub-passes Inv-loop μ-loop
 sub-passes c = omega arith
 
--- src/main.rt:42:5
 loop-less : tie.Need-loop-less Inv-loop μ-loop
 loop-less c = omega arith
 
--- src/main.rt:42:5
 loop-again : tie.Need-loop-again Inv-loop μ-loop
 loop-again c = (c .before .before .pass .ensures, c .before .before .before .before .before .before .before .before .loop .inv .1 ∙ sym (c .before .before .pass .kept .1 .0), c .before .before .before .before .before .before .before .before .loop .inv .2 ∙ sym (c .before .before .pass .kept .1 .1 .0))
 
--- src/main.rt:37:1
 returns : tie.Need-returns Inv-loop μ-loop
 returns c = tt
 
--- src/main.rt:37:1
 returns-2 : tie.Need-returns-2 Inv-loop μ-loop
 returns-2 c = tt
 

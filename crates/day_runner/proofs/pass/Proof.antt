@@ -6,11 +6,9 @@ use borrow.Author.Needs.{needs}
 use Rattle.day_runner.proofs.pass.Statement.{statement}
 use Rattle.day_runner.proofs.pass.Tie as tie
 
--- src/main.rt:27:9
 refill-requires : tie.Need-refill-requires
 refill-requires c κs = search needs
 
--- src/main.rt:28:28
 refilled-requires : tie.Need-refilled-requires
 refilled-requires c κs = search needs
 
@@ -20,41 +18,32 @@ slice-aggregate-run c = search needs
 run-requires : tie.Need-run-requires
 run-requires c κs = subst (λ i. Within i (length (c .before .before .before .before .before .before .refill .last .1 .0))) (sym (c .before .before .before .refilled .ensures)) (c .before .before .before .before .before .before .refill .ensures)
 
--- src/main.rt:29:8
 is-waiting-requires : tie.Need-is-waiting-requires
 is-waiting-requires c κs = search needs
 
--- src/main.rt:30:9
 same-length : tie.Need-same-length
 same-length c = search needs
 
--- src/main.rt:30:9
 same-length-2 : tie.Need-same-length-2
 same-length-2 c = search needs
 
--- src/main.rt:30:9
 returns : tie.Need-returns
 returns c = search needs
 
--- src/main.rt:32:9
 write-out-requires : tie.Need-write-out-requires
 write-out-requires c κs = search needs
 
--- src/main.rt:33:5
 flushed-requires : tie.Need-flushed-requires
 flushed-requires c κs = search needs
 
--- src/main.rt:22:1
 same-length-3 : tie.Need-same-length-3
 same-length-3 c = search needs
 
--- src/main.rt:22:1
 same-length-4 : tie.Need-same-length-4
 same-length-4 c = search needs
 
--- src/main.rt:22:1
 returns-2 : tie.Need-returns-2
-returns-2 c = subst (λ i. Within i (length (c .before .before .before .before .before .before .before .before .before .before .before .before .before .before .before .refill .last .1 .0))) (sym (c .flushed .ensures)) (c .before .before .before .before .before .before .before .before .run .ensures)
+returns-2 c = subst (λ i. Within i (length (c .before .before .before .before .before .before .before .before .before .before .before .before .before .before .before .refill .last .1 .0))) (sym (c .flushed .ensures)) (c .before .before .before .before .before .before .before .before .run .ensures .0)
 
 pub pass-spec : {M : Type 1} → statement M
 pass-spec =

@@ -5,19 +5,15 @@ use borrow.Author.Needs.{needs}
 use Rattle.day_runner.proofs.write_out.Statement.{statement}
 use Rattle.day_runner.proofs.write_out.Tie as tie
 
--- src/main.rt:14:9
 returns : tie.Need-returns
 returns c = search needs
 
--- src/main.rt:16:34
 slice-aggregate-write-all : tie.Need-slice-aggregate-write-all
 slice-aggregate-write-all c = sym (length-take-le _ _ (c .before .if1 .left))
 
--- src/main.rt:16:5
 write-all-requires : tie.Need-write-all-requires
 write-all-requires c κs = search needs
 
--- src/main.rt:12:1
 returns-2 : tie.Need-returns-2
 returns-2 c = search needs
 

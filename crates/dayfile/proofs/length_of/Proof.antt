@@ -16,27 +16,22 @@ unknown (suc (suc (suc zero))) a b c d = absurd (c refl)
 unknown (suc (suc (suc (suc zero)))) a b c d = absurd (d refl)
 unknown (suc (suc (suc (suc (suc k))))) a b c d = refl
 
--- src/lib.rt:35:1
 returns : tie.Need-returns
 unfolding lengthOf
 returns c = sym (ap lengthOf (c .match .keys1))
 
--- src/lib.rt:35:1
 returns-2 : tie.Need-returns-2
 unfolding lengthOf
 returns-2 c = sym (ap lengthOf (c .match .keys2))
 
--- src/lib.rt:35:1
 returns-3 : tie.Need-returns-3
 unfolding lengthOf
 returns-3 c = sym (ap lengthOf (c .match .keys3))
 
--- src/lib.rt:35:1
 returns-4 : tie.Need-returns-4
 unfolding lengthOf
 returns-4 c = sym (ap lengthOf (c .match .keys4))
 
--- src/lib.rt:35:1
 returns-5 : tie.Need-returns-5
 returns-5 c = let n = c .match .rest in unknown _ (n .0 .0 .0 .1) (n .0 .0 .1) (n .0 .1) (n .1)
 

@@ -3,35 +3,27 @@ use borrow.Author.Needs.{needs}
 use Rattle.snapshot.proofs.number_in.Statement.{statement}
 use Rattle.snapshot.proofs.number_in.Tie as tie
 
--- src/lib.rt:64:23
 enum-known-x : tie.Need-enum-known-x
 enum-known-x c = search needs
 
--- src/lib.rt:65:52
 enum-known-x-2 : tie.Need-enum-known-x-2
 enum-known-x-2 c = search needs
 
--- src/lib.rt:66:23
 enum-known-x-3 : tie.Need-enum-known-x-3
 enum-known-x-3 c = search needs
 
--- src/lib.rt:67:23
 enum-known-x-4 : tie.Need-enum-known-x-4
 enum-known-x-4 c = search needs
 
--- src/lib.rt:60:1
 returns : tie.Need-returns
 returns c = search needs
 
--- src/lib.rt:60:1
 returns-2 : tie.Need-returns-2
 returns-2 c = search needs
 
--- src/lib.rt:60:1
 returns-3 : tie.Need-returns-3
 returns-3 c = search needs
 
--- src/lib.rt:60:1
 returns-4 : tie.Need-returns-4
 returns-4 c = search needs
 

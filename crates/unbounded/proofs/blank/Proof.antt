@@ -3,7 +3,6 @@ use borrow.Author.Needs.{needs}
 use Rattle.unbounded.proofs.blank.Statement.{statement}
 use Rattle.unbounded.proofs.blank.Tie as tie
 
--- src/lib.rt:42:1
 returns : tie.Need-returns
 returns c = search needs
 

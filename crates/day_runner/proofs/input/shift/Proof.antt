@@ -12,39 +12,30 @@ Inv-loop bytes₀ at n i₀ bytes i = (i ≤ n) × (length bytes ≡ length byte
 abbrev μ-loop : tie.MeasureT-loop
 μ-loop bytes₀ at n i₀ bytes i = n - i
 
--- src/input.rt:16:5
 loop-holds : tie.Need-loop-holds Inv-loop μ-loop
 loop-holds c = (omega arith, refl)
 
--- src/input.rt:17:26
 add-bytes : tie.Need-add-bytes Inv-loop μ-loop
 add-bytes c = omega arith
 
--- src/input.rt:17:20
 slice-read-bytes : tie.Need-slice-read-bytes Inv-loop μ-loop
 slice-read-bytes c = omega arith
 
--- src/input.rt:17:9
 slice-write-bytes : tie.Need-slice-write-bytes Inv-loop μ-loop
 slice-write-bytes c = omega arith
 
--- src/input.rt:18:9
 add-i : tie.Need-add-i Inv-loop μ-loop
 add-i c = omega arith
 
--- src/input.rt:16:5
 loop-less : tie.Need-loop-less Inv-loop μ-loop
 loop-less c = omega arith
 
--- src/input.rt:16:5
 loop-again : tie.Need-loop-again Inv-loop μ-loop
 loop-again c = simp length-set (omega arith)
 
--- src/input.rt:12:1
 same-length : tie.Need-same-length Inv-loop μ-loop
 same-length c = c .before .loop .inv .1
 
--- src/input.rt:12:1
 returns : tie.Need-returns Inv-loop μ-loop
 returns c = tt
 

@@ -5,35 +5,27 @@ use borrow.Author.Needs.{needs}
 use Rattle.day_runner.proofs.printed.call_line.Statement.{statement}
 use Rattle.day_runner.proofs.printed.call_line.Tie as tie
 
--- src/printed.rt:19:27
 enum-known-x : tie.Need-enum-known-x
 enum-known-x c = search needs
 
--- src/printed.rt:24:23
 enum-known-x-2 : tie.Need-enum-known-x-2
 enum-known-x-2 c = search needs
 
--- src/printed.rt:25:23
 enum-known-x-3 : tie.Need-enum-known-x-3
 enum-known-x-3 c = search needs
 
--- src/printed.rt:26:23
 enum-known-x-4 : tie.Need-enum-known-x-4
 enum-known-x-4 c = search needs
 
--- src/printed.rt:15:1
 returns : tie.Need-returns
 returns c = sym (ap (callLine (c .before .before .before .args .event)) (c .before .x .given .1))
 
--- src/printed.rt:15:1
 returns-2 : tie.Need-returns-2
 returns-2 c = sym (ap (callLine (c .before .before .before .args .event)) (c .before .x2 .given .1))
 
--- src/printed.rt:15:1
 returns-3 : tie.Need-returns-3
 returns-3 c = sym (ap (callLine (c .before .before .before .args .event)) (c .before .x3 .given .1))
 
--- src/printed.rt:15:1
 returns-4 : tie.Need-returns-4
 returns-4 c = sym (ap (callLine (c .before .before .before .args .event)) (c .before .x4 .given .1))
 

@@ -8,27 +8,21 @@ use borrow.Author.Needs.{needs}
 use Rattle.day_runner.proofs.printed.lay.Statement.{statement}
 use Rattle.day_runner.proofs.printed.lay.Tie as tie
 
--- src/printed.rt:97:9
 shown-requires : tie.Need-shown-requires
 shown-requires c κs = search needs
 
--- src/printed.rt:98:18
 line-of-requires : tie.Need-line-of-requires
 line-of-requires c κs = search needs
 
--- src/printed.rt:98:33
 slice-aggregate-lay : tie.Need-slice-aggregate-lay
 slice-aggregate-lay c = sym (length-take-le _ _ (c .before .before .shown .ensures .0))
 
--- src/printed.rt:98:5
 lay-requires : tie.Need-lay-requires
 lay-requires c κs = search needs
 
--- src/printed.rt:92:1
 same-length : tie.Need-same-length
 same-length c = search needs
 
--- src/printed.rt:92:1
 returns : tie.Need-returns
 returns c =
     let at-lay = c .before .before in

@@ -6,35 +6,27 @@ use borrow.Author.Needs.{needs}
 use Rattle.day_runner.proofs.printed.line_of.Statement.{statement}
 use Rattle.day_runner.proofs.printed.line_of.Tie as tie
 
--- src/printed.rt:64:26
 enum-known-x : tie.Need-enum-known-x
 enum-known-x c = search needs
 
--- src/printed.rt:64:47
 answer-line-requires : tie.Need-answer-line-requires
 answer-line-requires c κs = search needs
 
--- src/printed.rt:65:25
 enum-told : tie.Need-enum-told
 enum-told c = search needs
 
--- src/printed.rt:66:26
 enum-known-x-2 : tie.Need-enum-known-x-2
 enum-known-x-2 c = search needs
 
--- src/printed.rt:67:21
 number-requires : tie.Need-number-requires
 number-requires c κs = search needs
 
--- src/printed.rt:58:1
 returns : tie.Need-returns
 returns c = c .answer-line .ensures ∙ sym (ap (lineOf (c .before .before .before .before .before .args .o)) (c .before .before .x .given .1))
 
--- src/printed.rt:58:1
 returns-2 : tie.Need-returns-2
 returns-2 c = sym (ap (lineOf (c .before .before .before .args .o)) (c .enum-told .given .1))
 
--- src/printed.rt:58:1
 returns-3 : tie.Need-returns-3
 returns-3 c = ap Printed.Refused (c .number .ensures) ∙ sym (ap (lineOf (c .before .before .before .before .before .args .o)) (c .before .before .x2 .given .1))
 

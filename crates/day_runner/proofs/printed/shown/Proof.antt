@@ -6,11 +6,9 @@ use borrow.Author.Needs.{needs}
 use Rattle.day_runner.proofs.printed.shown.Statement.{statement}
 use Rattle.day_runner.proofs.printed.shown.Tie as tie
 
--- src/printed.rt:84:1
 returns : tie.Need-returns
 returns c = (omega arith, λ l q. let few = c .if1 .taken in take-all (c .before .args .size) l (omega arith) ∙ sym (take-all (c .before .args .count) l (omega arith)))
 
--- src/printed.rt:84:1
 returns-2 : tie.Need-returns-2
 returns-2 c = search needs
 

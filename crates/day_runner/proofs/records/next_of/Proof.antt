@@ -4,36 +4,36 @@ use mathlib.Core.Path.{sym, _∙_}
 use native.Mathlib.Omega.{arith}
 use lib.ListN.{take, drop, length-take}
 use Rattle.dayfile.proofs.Files.{records-ends}
+use Rattle.day_runner.specs.Rounds.{nextIn}
 use borrow.Author.Needs.{needs}
 use Rattle.day_runner.proofs.records.next_of.Statement.{statement}
 use Rattle.day_runner.proofs.records.next_of.Tie as tie
 
--- src/records.rt:235:19
 sub-read : tie.Need-sub-read
 sub-read c = search needs
 
--- src/records.rt:235:19
 part-read-start : tie.Need-part-read-start
 part-read-start c = search needs
 
--- src/records.rt:235:19
 part-read-end : tie.Need-part-read-end
 part-read-end c = search needs
 
--- src/records.rt:235:5
 read-requires : tie.Need-read-requires
 read-requires c κs = search needs
 
--- src/records.rt:228:1
 returns : tie.Need-returns
-returns c r k q =
-    let a = c .before .before .before .before .args in
-    let i = a .at .input in
-    let part = take (i .end - i .at) (drop (i .at) (a .bytes .now)) in
-    let w = records-ends part .consumes r k (sym (c .read .ensures) ∙ q) in
-    let l = length-take (i .end - i .at) (drop (i .at) (a .bytes .now)) in
-    let p = c .before .before .before .before .pre .start in
-    omega arith
+unfolding nextIn
+returns c = (
+  c .read .ensures,
+  λ r k q.
+      let a = c .before .before .before .before .args in
+      let i = a .at .input in
+      let part = take (i .end - i .at) (drop (i .at) (a .bytes .now)) in
+      let w = records-ends part .consumes r k (sym (c .read .ensures) ∙ q) in
+      let l = length-take (i .end - i .at) (drop (i .at) (a .bytes .now)) in
+      let p = c .before .before .before .before .pre .start in
+      omega arith,
+)
 
 pub next-of-spec : {M : Type 1} → statement M
 next-of-spec = tie.close (tie.spec sub-read part-read-start part-read-end read-requires returns)

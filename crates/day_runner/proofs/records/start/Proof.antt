@@ -6,21 +6,17 @@ use borrow.Author.Needs.{needs}
 use Rattle.day_runner.proofs.records.start.Statement.{statement}
 use Rattle.day_runner.proofs.records.start.Tie as tie
 
--- src/records.rt:53:14
 blank-requires : tie.Need-blank-requires
 blank-requires c κs = search needs
 
--- src/records.rt:59:23
 blank-requires-2 : tie.Need-blank-requires-2
 blank-requires-2 c κs = search needs
 
--- src/records.rt:59:5
 with-table-requires : tie.Need-with-table-requires
 with-table-requires c κs = search needs
 
--- src/records.rt:44:1
 returns : tie.Need-returns
-returns c = subst (λ p. Within (p .input) 0) (sym (c .with-table .ensures)) (record { start = omega arith; stop = omega arith })
+returns c = subst (λ p. Within (p .input) 0) (sym (c .with-table .ensures .0)) (record { start = omega arith; stop = omega arith })
 
 pub start-spec : {M : Type 1} → statement M
 start-spec = tie.close (tie.spec blank-requires blank-requires-2 with-table-requires returns)

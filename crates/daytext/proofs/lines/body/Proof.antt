@@ -5,164 +5,129 @@ use borrow.Author.Needs.{needs}
 use Rattle.daytext.proofs.lines.body.Statement.{statement}
 use Rattle.daytext.proofs.lines.body.Tie as tie
 
--- src/lines.rt:23:24
 enum-known-line : tie.Need-enum-known-line
 enum-known-line c = search needs
 
--- src/lines.rt:23:41
 slice-aggregate-field : tie.Need-slice-aggregate-field
 slice-aggregate-field c = search needs
 
--- src/lines.rt:23:35
 field-requires : tie.Need-field-requires
 field-requires c κs = search needs
 
--- src/lines.rt:25:20
 enum-known-line-2 : tie.Need-enum-known-line-2
 enum-known-line-2 c = search needs
 
--- src/lines.rt:28:14
 update-requires : tie.Need-update-requires
 update-requires c κs = search needs
 
--- src/lines.rt:29:29
 enum-known-line-3 : tie.Need-enum-known-line-3
 enum-known-line-3 c = search needs
 
--- src/lines.rt:29:45
 scan-requires : tie.Need-scan-requires
 scan-requires c κs = search needs
 
--- src/lines.rt:30:29
 enum-known-line-4 : tie.Need-enum-known-line-4
 enum-known-line-4 c = search needs
 
--- src/lines.rt:30:45
 read-requires : tie.Need-read-requires
 read-requires c κs = search needs
 
--- src/lines.rt:32:20
 enum-known-line-5 : tie.Need-enum-known-line-5
 enum-known-line-5 c = search needs
 
--- src/lines.rt:35:14
 written-requires : tie.Need-written-requires
 written-requires c κs = search needs
 
--- src/lines.rt:37:20
 enum-known-line-6 : tie.Need-enum-known-line-6
 enum-known-line-6 c = search needs
 
--- src/lines.rt:42:14
 page-requires : tie.Need-page-requires
 page-requires c κs = search needs
 
--- src/lines.rt:43:33
 enum-known-line-7 : tie.Need-enum-known-line-7
 enum-known-line-7 c = search needs
 
--- src/lines.rt:43:46
 slice-aggregate-field-2 : tie.Need-slice-aggregate-field-2
 slice-aggregate-field-2 c = search needs
 
--- src/lines.rt:43:40
 field-requires-2 : tie.Need-field-requires-2
 field-requires-2 c κs = search needs
 
--- src/lines.rt:44:28
 enum-known-line-8 : tie.Need-enum-known-line-8
 enum-known-line-8 c = search needs
 
--- src/lines.rt:44:41
 slice-aggregate-field-3 : tie.Need-slice-aggregate-field-3
 slice-aggregate-field-3 c = search needs
 
--- src/lines.rt:44:35
 field-requires-3 : tie.Need-field-requires-3
 field-requires-3 c κs = search needs
 
--- src/lines.rt:16:1
 same-length : tie.Need-same-length
 same-length c = search needs
 
--- src/lines.rt:16:1
 returns : tie.Need-returns
 unfolding bodyOf
 returns c =
     let at-call = c .before .before in
     (rw (at-call .before .before .before .before .line .given .1) (simp append-nil (at-call .field .ensures .0)), search needs)
 
--- src/lines.rt:16:1
 same-length-2 : tie.Need-same-length-2
 same-length-2 c = search needs
 
--- src/lines.rt:16:1
 returns-2 : tie.Need-returns-2
 unfolding bodyOf
 returns-2 c =
     let at-call = c .before .before in
     (rw (at-call .before .before .before .line2 .given .1) (at-call .update .ensures .0), search needs)
 
--- src/lines.rt:16:1
 same-length-3 : tie.Need-same-length-3
 same-length-3 c = search needs
 
--- src/lines.rt:16:1
 returns-3 : tie.Need-returns-3
 unfolding bodyOf
 returns-3 c =
     let at-call = c .before .before in
     (rw (at-call .before .before .before .line3 .given .1) (at-call .scan .ensures .0), search needs)
 
--- src/lines.rt:16:1
 same-length-4 : tie.Need-same-length-4
 same-length-4 c = search needs
 
--- src/lines.rt:16:1
 returns-4 : tie.Need-returns-4
 unfolding bodyOf
 returns-4 c =
     let at-call = c .before .before in
     (rw (at-call .before .before .before .line4 .given .1) (at-call .read .ensures .0), search needs)
 
--- src/lines.rt:16:1
 same-length-5 : tie.Need-same-length-5
 same-length-5 c = search needs
 
--- src/lines.rt:16:1
 returns-5 : tie.Need-returns-5
 unfolding bodyOf
 returns-5 c =
     let at-call = c .before .before in
     (rw (at-call .before .before .before .line5 .given .1) (at-call .written .ensures .0), search needs)
 
--- src/lines.rt:16:1
 same-length-6 : tie.Need-same-length-6
 same-length-6 c = search needs
 
--- src/lines.rt:16:1
 returns-6 : tie.Need-returns-6
 unfolding bodyOf
 returns-6 c =
     let at-call = c .before .before in
     (rw (at-call .before .before .before .line6 .given .1) (at-call .page .ensures .0), search needs)
 
--- src/lines.rt:16:1
 same-length-7 : tie.Need-same-length-7
 same-length-7 c = search needs
 
--- src/lines.rt:16:1
 returns-7 : tie.Need-returns-7
 unfolding bodyOf
 returns-7 c =
     let at-call = c .before .before in
     (rw (at-call .before .before .before .before .line7 .given .1) (simp append-nil (at-call .field2 .ensures .0)), search needs)
 
--- src/lines.rt:16:1
 same-length-8 : tie.Need-same-length-8
 same-length-8 c = search needs
 
--- src/lines.rt:16:1
 returns-8 : tie.Need-returns-8
 unfolding bodyOf
 returns-8 c =

@@ -5,31 +5,24 @@ use borrow.Author.Needs.{needs}
 use Rattle.daytext.proofs.lines.lent.Statement.{statement}
 use Rattle.daytext.proofs.lines.lent.Tie as tie
 
--- src/lines.rt:95:9
 number-requires : tie.Need-number-requires
 number-requires c κs = search needs
 
--- src/lines.rt:96:19
 slice-aggregate-field : tie.Need-slice-aggregate-field
 slice-aggregate-field c = search needs
 
--- src/lines.rt:96:9
 field-requires : tie.Need-field-requires
 field-requires c κs = search needs
 
--- src/lines.rt:97:11
 slice-aggregate-field-2 : tie.Need-slice-aggregate-field-2
 slice-aggregate-field-2 c = search needs
 
--- src/lines.rt:97:5
 field-requires-2 : tie.Need-field-requires-2
 field-requires-2 c κs = search needs
 
--- src/lines.rt:88:1
 same-length : tie.Need-same-length
 same-length c = search needs
 
--- src/lines.rt:88:1
 returns : tie.Need-returns
 returns c =
     let at-last = c .before .before in

@@ -23,39 +23,30 @@ page-text : (e p l i t : ℕ) (ws : List ℕ)
 unfolding bodyOf
 page-text e p l i t ws = simp append-assoc
 
--- src/lines.rt:118:9
 lent-requires : tie.Need-lent-requires
 lent-requires c κs = search needs
 
--- src/lines.rt:119:19
 slice-aggregate-field : tie.Need-slice-aggregate-field
 slice-aggregate-field c = search needs
 
--- src/lines.rt:119:9
 field-requires : tie.Need-field-requires
 field-requires c κs = search needs
 
--- src/lines.rt:120:19
 slice-aggregate-field-2 : tie.Need-slice-aggregate-field-2
 slice-aggregate-field-2 c = search needs
 
--- src/lines.rt:120:9
 field-requires-2 : tie.Need-field-requires-2
 field-requires-2 c κs = search needs
 
--- src/lines.rt:121:19
 slice-aggregate-bytes : tie.Need-slice-aggregate-bytes
 slice-aggregate-bytes c = search needs
 
--- src/lines.rt:121:9
 bytes-requires : tie.Need-bytes-requires
 bytes-requires c κs = search needs
 
--- src/lines.rt:122:5
 numbers-requires : tie.Need-numbers-requires
 numbers-requires c κs = search needs
 
--- src/lines.rt:101:1
 same-length : tie.Need-same-length
 same-length c = search needs
 

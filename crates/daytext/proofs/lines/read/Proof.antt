@@ -7,23 +7,18 @@ use borrow.Author.Needs.{needs}
 use Rattle.daytext.proofs.lines.read.Statement.{statement}
 use Rattle.daytext.proofs.lines.read.Tie as tie
 
--- src/lines.rt:72:9
 number-requires : tie.Need-number-requires
 number-requires c κs = search needs
 
--- src/lines.rt:73:11
 slice-aggregate-field : tie.Need-slice-aggregate-field
 slice-aggregate-field c = search needs
 
--- src/lines.rt:73:5
 field-requires : tie.Need-field-requires
 field-requires c κs = search needs
 
--- src/lines.rt:67:1
 same-length : tie.Need-same-length
 same-length c = search needs
 
--- src/lines.rt:67:1
 returns : tie.Need-returns
 unfolding bodyOf
 returns c =

@@ -7,31 +7,24 @@ use borrow.Author.Needs.{needs}
 use Rattle.daytext.proofs.lines.written.Statement.{statement}
 use Rattle.daytext.proofs.lines.written.Tie as tie
 
--- src/lines.rt:81:9
 number-requires : tie.Need-number-requires
 number-requires c κs = search needs
 
--- src/lines.rt:82:19
 slice-aggregate-field : tie.Need-slice-aggregate-field
 slice-aggregate-field c = search needs
 
--- src/lines.rt:82:9
 field-requires : tie.Need-field-requires
 field-requires c κs = search needs
 
--- src/lines.rt:83:11
 slice-aggregate-field-2 : tie.Need-slice-aggregate-field-2
 slice-aggregate-field-2 c = search needs
 
--- src/lines.rt:83:5
 field-requires-2 : tie.Need-field-requires-2
 field-requires-2 c κs = search needs
 
--- src/lines.rt:76:1
 same-length : tie.Need-same-length
 same-length c = search needs
 
--- src/lines.rt:76:1
 returns : tie.Need-returns
 unfolding bodyOf
 returns c =

@@ -18,31 +18,24 @@ Inv-loop n a b ms j₀ j = (j ≤ n) × ((i : ℕ) → i < j → lends ascending
 abbrev μ-loop : tie.MeasureT-loop
 μ-loop n a b ms j₀ j = n - j
 
--- src/arrays.rt:82:5
 loop-holds : tie.Need-loop-holds Inv-loop μ-loop
 loop-holds c = (omega arith, below-none _)
 
--- src/arrays.rt:83:12
 mul-if1 : tie.Need-mul-if1 Inv-loop μ-loop
 mul-if1 c = search needs
 
--- src/arrays.rt:83:12
 element-copy-out-if1 : tie.Need-element-copy-out-if1 Inv-loop μ-loop
 element-copy-out-if1 c = search needs
 
--- src/arrays.rt:83:24
 mul-if1-2 : tie.Need-mul-if1-2 Inv-loop μ-loop
 mul-if1-2 c = search needs
 
--- src/arrays.rt:83:24
 element-copy-out-if1-2 : tie.Need-element-copy-out-if1-2 Inv-loop μ-loop
 element-copy-out-if1-2 c = search needs
 
--- src/arrays.rt:84:16
 array-read-if2 : tie.Need-array-read-if2 Inv-loop μ-loop
 array-read-if2 c = search needs
 
--- src/arrays.rt:85:17
 returns : tie.Need-returns Inv-loop μ-loop
 unfolding isMoved
 returns c =
@@ -52,15 +45,12 @@ returns c =
     (λ h. other-lends ascending (a .t2) (a .t3) (a .t4) (l .j) (other-seqs ascending (a .t2) (a .t3) (l .j) (c .before .if1 .taken))
     ∙ c .if2 .taken))
 
--- src/arrays.rt:88:9
 add-j : tie.Need-add-j Inv-loop μ-loop
 add-j c = search needs
 
--- src/arrays.rt:82:5
 loop-less : tie.Need-loop-less Inv-loop μ-loop
 loop-less c = search needs
 
--- src/arrays.rt:82:5
 loop-again : tie.Need-loop-again Inv-loop μ-loop
 unfolding isMoved
 loop-again c =
@@ -74,7 +64,6 @@ loop-again c =
           (c .if1 .came)),
     )
 
--- src/arrays.rt:77:1
 returns-2 : tie.Need-returns-2 Inv-loop μ-loop
 returns-2 c =
     let a = c .before .before .args in

@@ -17,27 +17,21 @@ Inv-loop n a b j₀ j = (j ≤ n) × ((i : ℕ) → i < j → differs ascending 
 abbrev μ-loop : tie.MeasureT-loop
 μ-loop n a b j₀ j = n - j
 
--- src/arrays.rt:67:5
 loop-holds : tie.Need-loop-holds Inv-loop μ-loop
 loop-holds c = (omega arith, below-none _)
 
--- src/arrays.rt:68:12
 mul-if1 : tie.Need-mul-if1 Inv-loop μ-loop
 mul-if1 c = search needs
 
--- src/arrays.rt:68:12
 element-copy-out-if1 : tie.Need-element-copy-out-if1 Inv-loop μ-loop
 element-copy-out-if1 c = search needs
 
--- src/arrays.rt:68:24
 mul-if1-2 : tie.Need-mul-if1-2 Inv-loop μ-loop
 mul-if1-2 c = search needs
 
--- src/arrays.rt:68:24
 element-copy-out-if1-2 : tie.Need-element-copy-out-if1-2 Inv-loop μ-loop
 element-copy-out-if1-2 c = search needs
 
--- src/arrays.rt:69:13
 returns : tie.Need-returns Inv-loop μ-loop
 returns c =
     let a = c .before .before .before .args in
@@ -45,22 +39,18 @@ returns c =
     sym (first-below-is (differs ascending (a .t2) (a .t3)) (a .n) (l .j) (l .inv .0) (l .inv .1)
     (λ h. other-seqs ascending (a .t2) (a .t3) (l .j) (c .if1 .taken)))
 
--- src/arrays.rt:71:9
 add-j : tie.Need-add-j Inv-loop μ-loop
 add-j c = search needs
 
--- src/arrays.rt:67:5
 loop-less : tie.Need-loop-less Inv-loop μ-loop
 loop-less c = search needs
 
--- src/arrays.rt:67:5
 loop-again : tie.Need-loop-again Inv-loop μ-loop
 loop-again c =
     let a = c .before .before .before .args in
     let l = c .before .before .loop in
     (omega arith, below-more _ (l .j) (l .inv .1) (same-seqs ascending (a .t2) (a .t3) (l .j) (c .if1 .left)))
 
--- src/arrays.rt:62:1
 returns-2 : tie.Need-returns-2 Inv-loop μ-loop
 returns-2 c =
     let a = c .before .before .args in

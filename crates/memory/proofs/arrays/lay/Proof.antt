@@ -5,11 +5,9 @@ use borrow.Author.Needs.{needs}
 use Rattle.memory.proofs.arrays.lay.Statement.{statement}
 use Rattle.memory.proofs.arrays.lay.Tie as tie
 
--- src/arrays.rt:31:9
 over-words-requires : tie.Need-over-words-requires
 over-words-requires c κs = search needs
 
--- src/arrays.rt:25:1
 returns : tie.Need-returns
 unfolding laid
 returns c = rw (c .over-words .ensures)

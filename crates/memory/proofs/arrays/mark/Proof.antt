@@ -19,39 +19,30 @@ Inv-loop k a b x₀ j₀ x j = (j ≤ k) × (x ≡ markFrom (differs ascending a
 abbrev μ-loop : tie.MeasureT-loop
 μ-loop k a b x₀ j₀ x j = k - j
 
--- src/arrays.rt:100:5
 loop-holds : tie.Need-loop-holds Inv-loop μ-loop
 loop-holds c = (omega arith, refl)
 
--- src/arrays.rt:101:12
 mul-if1 : tie.Need-mul-if1 Inv-loop μ-loop
 mul-if1 c = search needs
 
--- src/arrays.rt:101:12
 element-copy-out-if1 : tie.Need-element-copy-out-if1 Inv-loop μ-loop
 element-copy-out-if1 c = search needs
 
--- src/arrays.rt:101:24
 mul-if1-2 : tie.Need-mul-if1-2 Inv-loop μ-loop
 mul-if1-2 c = search needs
 
--- src/arrays.rt:101:24
 element-copy-out-if1-2 : tie.Need-element-copy-out-if1-2 Inv-loop μ-loop
 element-copy-out-if1-2 c = search needs
 
--- src/arrays.rt:102:13
 array-write-x : tie.Need-array-write-x Inv-loop μ-loop
 array-write-x c = search needs
 
--- src/arrays.rt:104:9
 add-j : tie.Need-add-j Inv-loop μ-loop
 add-j c = search needs
 
--- src/arrays.rt:100:5
 loop-less : tie.Need-loop-less Inv-loop μ-loop
 loop-less c = search needs
 
--- src/arrays.rt:100:5
 loop-again : tie.Need-loop-again Inv-loop μ-loop
 unfolding withMoved
 loop-again c =
@@ -68,7 +59,6 @@ loop-again c =
           (c .if1 .came),
     )
 
--- src/arrays.rt:94:1
 returns : tie.Need-returns Inv-loop μ-loop
 returns c =
     let a = c .before .before .args in

@@ -14,35 +14,27 @@ Inv-loop n a r₀ i₀ r i = (i ≤ n) × (r ≡ over i a r₀)
 abbrev μ-loop : tie.MeasureT-loop
 μ-loop n a r₀ i₀ r i = n - i
 
--- src/arrays.rt:13:5
 loop-holds : tie.Need-loop-holds Inv-loop μ-loop
 loop-holds c = (omega arith, refl)
 
--- src/arrays.rt:14:16
 mul-r : tie.Need-mul-r Inv-loop μ-loop
 mul-r c = search needs
 
--- src/arrays.rt:14:16
 array-read-r : tie.Need-array-read-r Inv-loop μ-loop
 array-read-r c = search needs
 
--- src/arrays.rt:14:9
 mul-r-2 : tie.Need-mul-r-2 Inv-loop μ-loop
 mul-r-2 c = search needs
 
--- src/arrays.rt:14:9
 array-write-r : tie.Need-array-write-r Inv-loop μ-loop
 array-write-r c = search needs
 
--- src/arrays.rt:15:9
 add-i : tie.Need-add-i Inv-loop μ-loop
 add-i c = search needs
 
--- src/arrays.rt:13:5
 loop-less : tie.Need-loop-less Inv-loop μ-loop
 loop-less c = search needs
 
--- src/arrays.rt:13:5
 loop-again : tie.Need-loop-again Inv-loop μ-loop
 loop-again c = (
   omega arith,
@@ -50,7 +42,6 @@ loop-again c = (
       ∙ over-more (c .before .loop .i) (c .before .before .args .t2) (c .before .before .args .b) 0 (omega arith) (omega arith),
 )
 
--- src/arrays.rt:7:1
 returns : tie.Need-returns Inv-loop μ-loop
 returns c =
     let all : c .before .loop .i ≡ c .before .before .args .n = omega arith in

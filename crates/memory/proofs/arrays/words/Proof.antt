@@ -17,35 +17,27 @@ Inv-loop n rs x₀ j₀ x j = (j ≤ n) × (x ≡ over j (shown ascending n rs) 
 abbrev μ-loop : tie.MeasureT-loop
 μ-loop n rs x₀ j₀ x j = n - j
 
--- src/arrays.rt:116:5
 loop-holds : tie.Need-loop-holds Inv-loop μ-loop
 loop-holds c = (omega arith, refl)
 
--- src/arrays.rt:117:16
 mul-x : tie.Need-mul-x Inv-loop μ-loop
 mul-x c = search needs
 
--- src/arrays.rt:117:16
 element-copy-out-x : tie.Need-element-copy-out-x Inv-loop μ-loop
 element-copy-out-x c = search needs
 
--- src/arrays.rt:117:9
 mul-x-2 : tie.Need-mul-x-2 Inv-loop μ-loop
 mul-x-2 c = search needs
 
--- src/arrays.rt:117:9
 array-write-x : tie.Need-array-write-x Inv-loop μ-loop
 array-write-x c = search needs
 
--- src/arrays.rt:118:9
 add-j : tie.Need-add-j Inv-loop μ-loop
 add-j c = search needs
 
--- src/arrays.rt:116:5
 loop-less : tie.Need-loop-less Inv-loop μ-loop
 loop-less c = search needs
 
--- src/arrays.rt:116:5
 loop-again : tie.Need-loop-again Inv-loop μ-loop
 loop-again c =
     let a = c .before .before .args in
@@ -57,7 +49,6 @@ loop-again c =
           ∙ over-more (l .j) s (replicate 8 0) 0 (let q = shown-long ascending (a .n) (a .t2) in omega arith) (omega arith),
     )
 
--- src/arrays.rt:110:1
 returns : tie.Need-returns Inv-loop μ-loop
 returns c =
     let a = c .before .before .args in

@@ -5,25 +5,20 @@ use borrow.Author.Needs.{needs}
 use Rattle.memory.proofs.checks.bad_after.Statement.{statement}
 use Rattle.memory.proofs.checks.bad_after.Tie as tie
 
--- src/checks.rt:81:9
 returns : tie.Need-returns
 returns c = search needs
 
--- src/checks.rt:84:9
 returns-2 : tie.Need-returns-2
 unfolding unsound
 returns-2 c = simp (c .before .if1 .left, lt-ltb _ _ (c .if2 .taken))
 
--- src/checks.rt:87:9
 returns-3 : tie.Need-returns-3
 unfolding unsound
 returns-3 c = simp (c .before .before .if1 .left, le-ltb _ _ (c .before .if2 .left), lt-ltb _ _ (c .if3 .taken))
 
--- src/checks.rt:89:5
 is-overdue-requires : tie.Need-is-overdue-requires
 is-overdue-requires c κs = search needs
 
--- src/checks.rt:74:1
 returns-4 : tie.Need-returns-4
 unfolding unsound
 returns-4 c =

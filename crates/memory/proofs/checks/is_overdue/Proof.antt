@@ -5,35 +5,27 @@ use borrow.Author.Needs.{needs}
 use Rattle.memory.proofs.checks.is_overdue.Statement.{statement}
 use Rattle.memory.proofs.checks.is_overdue.Tie as tie
 
--- src/checks.rt:62:23
 enum-told : tie.Need-enum-told
 enum-told c = search needs
 
--- src/checks.rt:63:22
 enum-known-k : tie.Need-enum-known-k
 enum-known-k c = search needs
 
--- src/checks.rt:64:33
 enum-known-k-2 : tie.Need-enum-known-k-2
 enum-known-k-2 c = search needs
 
--- src/checks.rt:68:13
 enum-known-k-3 : tie.Need-enum-known-k-3
 enum-known-k-3 c = search needs
 
--- src/checks.rt:58:1
 returns : tie.Need-returns
 returns c = search needs
 
--- src/checks.rt:58:1
 returns-2 : tie.Need-returns-2
 returns-2 c = sym (ap (overdue (c .before .before .before .args .most)) (c .before .k .given .1))
 
--- src/checks.rt:58:1
 returns-3 : tie.Need-returns-3
 returns-3 c = sym (ap (overdue (c .before .before .before .args .most)) (c .before .k2 .given .1))
 
--- src/checks.rt:58:1
 returns-4 : tie.Need-returns-4
 returns-4 c = sym (ap (overdue (c .before .before .before .args .most)) (c .before .k3 .given .1))
 

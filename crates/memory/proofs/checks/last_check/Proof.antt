@@ -4,16 +4,13 @@ use Rattle.unbounded.specs.Days.{isFull}
 use Rattle.memory.proofs.checks.last_check.Statement.{statement}
 use Rattle.memory.proofs.checks.last_check.Tie as tie
 
--- src/checks.rt:127:9
 returns : tie.Need-returns
 returns c = simp (c .if1 .taken)
 
--- src/checks.rt:130:9
 returns-2 : tie.Need-returns-2
 unfolding isFull
 returns-2 c = simp (c .before .if1 .left, eq-eqb _ _ (c .if2 .taken))
 
--- src/checks.rt:123:1
 returns-3 : tie.Need-returns-3
 unfolding isFull
 returns-3 c = simp (c .before .if1 .left, ne-eqb _ _ (c .if2 .left))

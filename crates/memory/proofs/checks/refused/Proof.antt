@@ -6,19 +6,15 @@ use borrow.Author.Needs.{needs}
 use Rattle.memory.proofs.checks.refused.Statement.{statement}
 use Rattle.memory.proofs.checks.refused.Tie as tie
 
--- src/checks.rt:185:21
 enum-told : tie.Need-enum-told
 enum-told c = search needs
 
--- src/checks.rt:187:24
 enum-known-c : tie.Need-enum-known-c
 enum-known-c c = search needs
 
--- src/checks.rt:179:1
 returns : tie.Need-returns
 returns c = sym (ap (λ x. refusedOutcome (c .before .before .args .day) (asOption x)) (c .enum-told .given .1))
 
--- src/checks.rt:179:1
 returns-2 : tie.Need-returns-2
 returns-2 c = sym (ap (λ x. refusedOutcome (c .before .before .before .args .day) (asOption x)) (c .before .c .given .1))
 

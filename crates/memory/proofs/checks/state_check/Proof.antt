@@ -8,19 +8,15 @@ use borrow.Author.Needs.{needs}
 use Rattle.memory.proofs.checks.state_check.Statement.{statement}
 use Rattle.memory.proofs.checks.state_check.Tie as tie
 
--- src/checks.rt:210:9
 is-idle-requires : tie.Need-is-idle-requires
 is-idle-requires c κs = search needs
 
--- src/checks.rt:212:9
 last-check-requires : tie.Need-last-check-requires
 last-check-requires c κs = search needs
 
--- src/checks.rt:214:9
 last-check-requires-2 : tie.Need-last-check-requires-2
 last-check-requires-2 c κs = search needs
 
--- src/checks.rt:207:1
 returns : tie.Need-returns
 returns c =
     let a = c .before .before .before .args in
@@ -28,7 +24,6 @@ returns c =
     ∙ ap (λ b. firstCause (lastCauses (not b) Busy (a .event))) (c .before .before .is-idle .ensures)
     ∙ ap (λ k. firstCause (lastCauses (stateCause (a .k) k .0) (stateCause (a .k) k .1) (a .event))) (sym (c .before .if1 .taken))
 
--- src/checks.rt:207:1
 returns-2 : tie.Need-returns-2
 returns-2 c =
     let a = c .before .before .before .args in

@@ -3,11 +3,9 @@ use borrow.Author.Needs.{needs}
 use Rattle.memory.proofs.checks.zero.Statement.{statement}
 use Rattle.memory.proofs.checks.zero.Tie as tie
 
--- src/checks.rt:30:9
 zero-requires : tie.Need-zero-requires
 zero-requires c κs = search needs
 
--- src/checks.rt:27:1
 returns : tie.Need-returns
 returns c = rw (c .zero .ensures)
 

@@ -4,39 +4,30 @@ use borrow.Author.Needs.{needs}
 use Rattle.memory.proofs.requests.is_short.Statement.{statement}
 use Rattle.memory.proofs.requests.is_short.Tie as tie
 
--- src/requests.rt:53:29
 enum-told : tie.Need-enum-told
 enum-told c = search needs
 
--- src/requests.rt:57:14
 enum-told-2 : tie.Need-enum-told-2
 enum-told-2 c = search needs
 
--- src/requests.rt:58:29
 enum-told-3 : tie.Need-enum-told-3
 enum-told-3 c = search needs
 
--- src/requests.rt:59:36
 enum-told-4 : tie.Need-enum-told-4
 enum-told-4 c = search needs
 
--- src/requests.rt:59:36
 cast-result : tie.Need-cast-result
 cast-result c = search needs
 
--- src/requests.rt:49:1
 returns : tie.Need-returns
 returns c = search needs
 
--- src/requests.rt:49:1
 returns-2 : tie.Need-returns-2
 returns-2 c = search needs
 
--- src/requests.rt:49:1
 returns-3 : tie.Need-returns-3
 returns-3 c = search needs
 
--- src/requests.rt:49:1
 returns-4 : tie.Need-returns-4
 returns-4 c = let a = c .before .before .before .args in sym (ap (isShort (a .day) (a .size)) (c .before .enum-told4 .given .1))
 

@@ -4,35 +4,27 @@ use borrow.Author.Needs.{needs}
 use Rattle.memory.proofs.requests.task_for.Statement.{statement}
 use Rattle.memory.proofs.requests.task_for.Tie as tie
 
--- src/requests.rt:41:29
 enum-told : tie.Need-enum-told
 enum-told c = search needs
 
--- src/requests.rt:42:39
 enum-known-x : tie.Need-enum-known-x
 enum-known-x c = search needs
 
--- src/requests.rt:43:29
 enum-told-2 : tie.Need-enum-told-2
 enum-told-2 c = search needs
 
--- src/requests.rt:44:29
 enum-told-3 : tie.Need-enum-told-3
 enum-told-3 c = search needs
 
--- src/requests.rt:37:1
 returns : tie.Need-returns
 returns c = search needs
 
--- src/requests.rt:37:1
 returns-2 : tie.Need-returns-2
 returns-2 c = sym (ap taskFor (c .before .x .given .1))
 
--- src/requests.rt:37:1
 returns-3 : tie.Need-returns-3
 returns-3 c = search needs
 
--- src/requests.rt:37:1
 returns-4 : tie.Need-returns-4
 returns-4 c = search needs
 

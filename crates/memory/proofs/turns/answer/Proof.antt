@@ -7,50 +7,39 @@ use borrow.Author.Needs.{needs}
 use Rattle.memory.proofs.turns.answer.Statement.{statement}
 use Rattle.memory.proofs.turns.answer.Tie as tie
 
--- src/turns.rt:240:23
 enum-told : tie.Need-enum-told
 enum-told c = search needs
 
--- src/turns.rt:241:22
 enum-known-k : tie.Need-enum-known-k
 enum-known-k c = search needs
 
--- src/turns.rt:246:28
 add-t8 : tie.Need-add-t8
 add-t8 c = let q = ap turnsOf (c .before .before .k .given .1) in omega arith
 
--- src/turns.rt:252:47
 enum-told-2 : tie.Need-enum-told-2
 enum-told-2 c = search needs
 
--- src/turns.rt:256:13
 enum-known-k-2 : tie.Need-enum-known-k-2
 enum-known-k-2 c = search needs
 
--- src/turns.rt:257:39
 add-t9 : tie.Need-add-t9
 add-t9 c = let q = ap turnsOf (c .before .k2 .given .1) in omega arith
 
--- src/turns.rt:235:1
 returns : tie.Need-returns
 returns c = search needs
 
--- src/turns.rt:235:1
 returns-2 : tie.Need-returns-2
 returns-2 c =
     let a = c .before .before .before .before .args in
     let k = c .before .before .k .given in
     sym (ap (answerBy (a .f)) (k .1) ∙ ap (pageOr (a .f) (k .0 .0)) (c .if1 .taken))
 
--- src/turns.rt:235:1
 returns-3 : tie.Need-returns-3
 returns-3 c = search needs
 
--- src/turns.rt:235:1
 returns-4 : tie.Need-returns-4
 returns-4 c = search needs
 
--- src/turns.rt:235:1
 returns-5 : tie.Need-returns-5
 returns-5 c =
     let a = c .before .before .before .args in

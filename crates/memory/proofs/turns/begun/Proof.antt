@@ -79,71 +79,54 @@ Inv-loop n none q₀ i₀ q i = (i ≤ n) × (q ≡ clearedTo n i none q₀)
 abbrev μ-loop : tie.MeasureT-loop
 μ-loop n none q₀ i₀ q i = n - i
 
--- src/turns.rt:33:9
 zero-requires : tie.Need-zero-requires Inv-loop μ-loop
 zero-requires c κs = search needs
 
--- src/turns.rt:36:5
 loop-holds : tie.Need-loop-holds Inv-loop μ-loop
 loop-holds c = (omega arith, refl)
 
--- src/turns.rt:37:17
 mul-a : tie.Need-mul-a Inv-loop μ-loop
 mul-a c = search needs
 
--- src/turns.rt:37:17
 element-copy-out-a : tie.Need-element-copy-out-a Inv-loop μ-loop
 element-copy-out-a c = search needs
 
--- src/turns.rt:38:17
 mul-b : tie.Need-mul-b Inv-loop μ-loop
 mul-b c = search needs
 
--- src/turns.rt:38:17
 element-copy-out-b : tie.Need-element-copy-out-b Inv-loop μ-loop
 element-copy-out-b c = search needs
 
--- src/turns.rt:39:22
 lay-requires : tie.Need-lay-requires Inv-loop μ-loop
 lay-requires c κs = search needs
 
--- src/turns.rt:39:9
 mul-q : tie.Need-mul-q Inv-loop μ-loop
 mul-q c = search needs
 
--- src/turns.rt:39:9
 element-set-from-q : tie.Need-element-set-from-q Inv-loop μ-loop
 element-set-from-q c = search needs
 
--- src/turns.rt:40:23
 lay-requires-2 : tie.Need-lay-requires-2 Inv-loop μ-loop
 lay-requires-2 c κs = search needs
 
--- src/turns.rt:40:9
 mul-t10 : tie.Need-mul-t10 Inv-loop μ-loop
 mul-t10 c = search needs
 
--- src/turns.rt:40:9
 element-set-from-q-2 : tie.Need-element-set-from-q-2 Inv-loop μ-loop
 element-set-from-q-2 c = search needs
 
--- src/turns.rt:41:9
 mul-q-2 : tie.Need-mul-q-2 Inv-loop μ-loop
 mul-q-2 c = search needs
 
--- src/turns.rt:41:9
 element-write-q : tie.Need-element-write-q Inv-loop μ-loop
 element-write-q c = search needs
 
--- src/turns.rt:42:9
 add-i : tie.Need-add-i Inv-loop μ-loop
 add-i c = search needs
 
--- src/turns.rt:36:5
 loop-less : tie.Need-loop-less Inv-loop μ-loop
 loop-less c = search needs
 
--- src/turns.rt:36:5
 loop-again : tie.Need-loop-again Inv-loop μ-loop
 loop-again c =
     let l = c .before .before .before .before .before .loop in
@@ -156,7 +139,6 @@ loop-again c =
     let words = sym (length-map (p .view) (u32-field .into)) ∙ fields .1 .1 .1 .0 .1 .0 .1 in
     (omega arith, turned-once (start .args .n) (l .i) (c .before .before .before .before .before .before .zero .result) p (l .q) (c .before .lay .result) (c .lay2 .result) (l .inv .1) (c .before .lay .ensures) (c .lay2 .ensures) (omega arith) (omega (arith, firsts)) (omega (arith, seconds)) (omega (arith, words)))
 
--- src/turns.rt:29:1
 returns : tie.Need-returns Inv-loop μ-loop
 unfolding begin cleared
 returns c =

@@ -9,15 +9,12 @@ use borrow.Author.Needs.{needs}
 use Rattle.memory.proofs.turns.decide.Statement.{statement}
 use Rattle.memory.proofs.turns.decide.Tie as tie
 
--- src/turns.rt:128:8
 first-moved-requires : tie.Need-first-moved-requires
 first-moved-requires c κs = search needs
 
--- src/turns.rt:132:20
 words-requires : tie.Need-words-requires
 words-requires c κs = search needs
 
--- src/turns.rt:129:9
 returns : tie.Need-returns
 returns c =
     let a = c .before .before .before .args in
@@ -25,15 +22,12 @@ returns c =
     let l = lends ascending (a .a) (a .t4) (a .moved) in
     rw (c .words .ensures) (sym (ap (verdictFind (a .n) (a .end) (a .t4)) (verdict-clean (a .n) d l (sym (c .before .before .first-moved .ensures) ∙ c .before .if1 .taken))))
 
--- src/turns.rt:137:9
 first-lender-requires : tie.Need-first-lender-requires
 first-lender-requires c κs = search needs
 
--- src/turns.rt:139:9
 nothing-requires : tie.Need-nothing-requires
 nothing-requires c κs = search needs
 
--- src/turns.rt:139:9
 returns-2 : tie.Need-returns-2
 returns-2 c =
     let a = c .before .before .before .before .before .args in
@@ -44,23 +38,18 @@ returns-2 c =
     (λ q. c .before .before .before .if1 .left (c .before .before .before .before .first-moved .ensures ∙ q))
     (let e = c .before .before .first-lender .ensures in let g = c .before .if2 .taken in omega arith)))
 
--- src/turns.rt:141:16
 mul-lent : tie.Need-mul-lent
 mul-lent c = search needs
 
--- src/turns.rt:141:16
 array-copy-out-lent : tie.Need-array-copy-out-lent
 array-copy-out-lent c = search needs
 
--- src/turns.rt:148:18
 add-t10 : tie.Need-add-t10
 add-t10 c = search needs
 
--- src/turns.rt:148:17
 cast-t18 : tie.Need-cast-t18
 cast-t18 c = search needs
 
--- src/turns.rt:124:1
 returns-3 : tie.Need-returns-3
 returns-3 c =
     let a = c .before .before .before .before .before .before .args in

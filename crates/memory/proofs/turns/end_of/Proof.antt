@@ -5,17 +5,14 @@ use Rattle.unbounded.proofs.Reading.{end-reads, end-waits}
 use Rattle.memory.proofs.turns.end_of.Statement.{statement}
 use Rattle.memory.proofs.turns.end_of.Tie as tie
 
--- src/turns.rt:89:8
 add-if1 : tie.Need-add-if1
 add-if1 c = omega arith
 
--- src/turns.rt:85:1
 returns : tie.Need-returns
 returns c =
     let a = c .before .args in
     sym (end-reads (a .n) (a .pos) (a .now) (a .end) (c .if1 .taken))
 
--- src/turns.rt:85:1
 returns-2 : tie.Need-returns-2
 returns-2 c =
     let a = c .before .args in

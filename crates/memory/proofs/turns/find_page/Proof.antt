@@ -12,19 +12,15 @@ use borrow.Author.Needs.{needs}
 use Rattle.memory.proofs.turns.find_page.Statement.{statement}
 use Rattle.memory.proofs.turns.find_page.Tie as tie
 
--- src/turns.rt:71:8
 add-if1 : tie.Need-add-if1
 add-if1 c = search needs
 
--- src/turns.rt:71:19
 mul-if1 : tie.Need-mul-if1
 mul-if1 c = search needs
 
--- src/turns.rt:72:9
 nothing-requires : tie.Need-nothing-requires
 nothing-requires c κs = search needs
 
--- src/turns.rt:72:9
 returns : tie.Need-returns
 unfolding findOf
 returns c =
@@ -35,35 +31,27 @@ returns c =
     ∙ sym (ap (decisionFind (a .n) (endAfter (a .n) (a .pos) (a .now) (a .p .«first_end»)) y)
     (decision-waits (a .n) ascending (a .pos) x y (a .p .moved) (c .before .if1 .taken)))
 
--- src/turns.rt:77:13
 sub-i : tie.Need-sub-i
 sub-i c = search needs
 
--- src/turns.rt:78:15
 mul-old : tie.Need-mul-old
 mul-old c = search needs
 
--- src/turns.rt:78:15
 array-copy-out-old : tie.Need-array-copy-out-old
 array-copy-out-old c = search needs
 
--- src/turns.rt:79:12
 lay-requires : tie.Need-lay-requires
 lay-requires c κs = search needs
 
--- src/turns.rt:79:5
 mul-b : tie.Need-mul-b
 mul-b c = search needs
 
--- src/turns.rt:79:5
 array-set-from-b : tie.Need-array-set-from-b
 array-set-from-b c = search needs
 
--- src/turns.rt:80:5
 decide-requires : tie.Need-decide-requires
 decide-requires c κs = search needs
 
--- src/turns.rt:67:1
 returns-2 : tie.Need-returns-2
 unfolding findOf readInto
 returns-2 c =

@@ -5,11 +5,9 @@ use borrow.Author.Needs.{needs}
 use Rattle.memory.proofs.turns.lay_page.Statement.{statement}
 use Rattle.memory.proofs.turns.lay_page.Tie as tie
 
--- src/memory.rt:113:16
 enum-told : tie.Need-enum-told
 enum-told c = search needs
 
--- src/memory.rt:114:17
 lay-words-requires : tie.Need-lay-words-requires
 lay-words-requires c κs = search needs
 
@@ -22,11 +20,9 @@ enum-told-3 c = search needs
 enum-told-4 : tie.Need-enum-told-4
 enum-told-4 c = search needs
 
--- src/memory.rt:106:1
 same-length : tie.Need-same-length
 same-length c = search needs
 
--- src/memory.rt:106:1
 returns : tie.Need-returns
 returns c =
     let a = c .before .before .before .before .before .before .before .before .before .args in
@@ -34,19 +30,15 @@ returns c =
     c .before .before .lay-words .ensures
     ∙ sym (ap (λ k. pageBy (a .n) (a .f) k (a .page .now)) (told .1) ∙ ap (layIf (a .n) (a .f) (a .page .now)) (c .before .before .before .before .if1 .taken))
 
--- src/memory.rt:106:1
 returns-2 : tie.Need-returns-2
 returns-2 c = search needs
 
--- src/memory.rt:106:1
 returns-3 : tie.Need-returns-3
 returns-3 c = search needs
 
--- src/memory.rt:106:1
 returns-4 : tie.Need-returns-4
 returns-4 c = search needs
 
--- src/memory.rt:106:1
 returns-5 : tie.Need-returns-5
 returns-5 c = search needs
 

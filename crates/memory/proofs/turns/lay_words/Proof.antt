@@ -16,35 +16,27 @@ Inv-loop n page₀ words j₀ page j = (j ≤ n) × (page ≡ over j words page�
 abbrev μ-loop : tie.MeasureT-loop
 μ-loop n page₀ words j₀ page j = n - j
 
--- src/memory.rt:99:5
 loop-holds : tie.Need-loop-holds Inv-loop μ-loop
 loop-holds c = (omega arith, refl, refl)
 
--- src/memory.rt:100:19
 mul-page : tie.Need-mul-page Inv-loop μ-loop
 mul-page c = search needs
 
--- src/memory.rt:100:19
 array-read-page : tie.Need-array-read-page Inv-loop μ-loop
 array-read-page c = search needs
 
--- src/memory.rt:100:9
 mul-page-2 : tie.Need-mul-page-2 Inv-loop μ-loop
 mul-page-2 c = omega arith
 
--- src/memory.rt:100:9
 slice-write-page : tie.Need-slice-write-page Inv-loop μ-loop
 slice-write-page c = omega arith
 
--- src/memory.rt:101:9
 add-j : tie.Need-add-j Inv-loop μ-loop
 add-j c = search needs
 
--- src/memory.rt:99:5
 loop-less : tie.Need-loop-less Inv-loop μ-loop
 loop-less c = search needs
 
--- src/memory.rt:99:5
 loop-again : tie.Need-loop-again Inv-loop μ-loop
 loop-again c =
     let a = c .before .before .args in
@@ -54,11 +46,9 @@ loop-again c =
       length-set (l .page) (l .j) (getD (a .t2) (l .j) 0) ∙ l .inv .2,
     )
 
--- src/memory.rt:94:1
 same-length : tie.Need-same-length Inv-loop μ-loop
 same-length c = c .before .loop .inv .2
 
--- src/memory.rt:94:1
 returns : tie.Need-returns Inv-loop μ-loop
 returns c =
     let a = c .before .before .args in

@@ -4,12 +4,10 @@ use Rattle.unbounded.specs.Turns.{placeAt}
 use Rattle.memory.proofs.turns.place_at.Statement.{statement}
 use Rattle.memory.proofs.turns.place_at.Tie as tie
 
--- src/memory.rt:181:1
 returns : tie.Need-returns
 unfolding placeAt
 returns c = simp (lt-ltb _ _ (c .if1 .taken))
 
--- src/memory.rt:181:1
 returns-2 : tie.Need-returns-2
 unfolding placeAt
 returns-2 c = simp (le-ltb _ _ (c .if1 .left))

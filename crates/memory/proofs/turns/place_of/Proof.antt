@@ -8,35 +8,27 @@ use borrow.Author.Needs.{needs}
 use Rattle.memory.proofs.turns.place_of.Statement.{statement}
 use Rattle.memory.proofs.turns.place_of.Tie as tie
 
--- src/memory.rt:82:23
 enum-told : tie.Need-enum-told
 enum-told c = search needs
 
--- src/memory.rt:83:22
 enum-known-k : tie.Need-enum-known-k
 enum-known-k c = search needs
 
--- src/memory.rt:83:33
 position-of-requires : tie.Need-position-of-requires
 position-of-requires c κs = search needs
 
--- src/memory.rt:84:33
 enum-known-k-2 : tie.Need-enum-known-k-2
 enum-known-k-2 c = search needs
 
--- src/memory.rt:84:44
 position-of-requires-2 : tie.Need-position-of-requires-2
 position-of-requires-2 c κs = search needs
 
--- src/memory.rt:89:14
 enum-told-2 : tie.Need-enum-told-2
 enum-told-2 c = search needs
 
--- src/memory.rt:76:1
 returns : tie.Need-returns
 returns c = search needs
 
--- src/memory.rt:76:1
 returns-2 : tie.Need-returns-2
 returns-2 c =
     let a = c .before .before .before .before .args in
@@ -45,7 +37,6 @@ returns-2 c =
       subst (λ x. x < 2 * a .n) (sym (c .position-of .ensures)) (position-low (a .n) (k .0 .0) (omega arith)),
     )
 
--- src/memory.rt:76:1
 returns-3 : tie.Need-returns-3
 returns-3 c =
     let a = c .before .before .before .before .args in
@@ -54,7 +45,6 @@ returns-3 c =
       subst (λ x. x < 2 * a .n) (sym (c .position-of2 .ensures)) (position-low (a .n) (k .0 .1 .0) (omega arith)),
     )
 
--- src/memory.rt:76:1
 returns-4 : tie.Need-returns-4
 returns-4 c = search needs
 

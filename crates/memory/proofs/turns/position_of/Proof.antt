@@ -5,15 +5,12 @@ use borrow.Author.Needs.{needs}
 use Rattle.memory.proofs.turns.position_of.Statement.{statement}
 use Rattle.memory.proofs.turns.position_of.Tie as tie
 
--- src/turns.rt:52:21
 mul-result : tie.Need-mul-result
 mul-result c = search needs
 
--- src/turns.rt:52:5
 rem-result : tie.Need-rem-result
 rem-result c = search needs
 
--- src/turns.rt:48:1
 returns : tie.Need-returns
 unfolding position
 returns c = refl

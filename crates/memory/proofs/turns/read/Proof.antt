@@ -54,59 +54,45 @@ module _ (n now pos : ℕ) (r : Register) (p : Process) where
       ∙ ap (λ b. withRead p (firstAfter n pos r (p .first)) b e (p .view)) (ap (set (p .second) (pos - n)) d ∙ sym (second-reads n r (pos - n) (p .second)) ∙ ap (λ k. secondAfter n k r (p .second)) back)
       ∙ ap (λ z. withRead p (firstAfter n pos r (p .first)) (secondAfter n pos r (p .second)) z (p .view)) q
 
--- src/turns.rt:157:19
 end-of-requires : tie.Need-end-of-requires
 end-of-requires c κs = search needs
 
--- src/turns.rt:159:19
 mul-old : tie.Need-mul-old
 mul-old c = search needs
 
--- src/turns.rt:159:19
 element-copy-out-old : tie.Need-element-copy-out-old
 element-copy-out-old c = search needs
 
--- src/turns.rt:160:24
 lay-requires : tie.Need-lay-requires
 lay-requires c κs = search needs
 
--- src/turns.rt:160:9
 mul-t22 : tie.Need-mul-t22
 mul-t22 c = search needs
 
--- src/turns.rt:160:9
 element-set-from-q : tie.Need-element-set-from-q
 element-set-from-q c = search needs
 
--- src/turns.rt:163:19
 mul-old-2 : tie.Need-mul-old-2
 mul-old-2 c = search needs
 
--- src/turns.rt:163:19
 element-copy-out-old-2 : tie.Need-element-copy-out-old-2
 element-copy-out-old-2 c = search needs
 
--- src/turns.rt:164:23
 lay-requires-2 : tie.Need-lay-requires-2
 lay-requires-2 c κs = search needs
 
--- src/turns.rt:164:9
 mul-t28 : tie.Need-mul-t28
 mul-t28 c = search needs
 
--- src/turns.rt:164:9
 element-set-from-q-2 : tie.Need-element-set-from-q-2
 element-set-from-q-2 c = search needs
 
--- src/turns.rt:166:8
 keeps-requires : tie.Need-keeps-requires
 keeps-requires c κs = search needs
 
--- src/turns.rt:167:13
 over-words-requires : tie.Need-over-words-requires
 over-words-requires c κs = search needs
 
--- src/turns.rt:174:13
 mark-requires : tie.Need-mark-requires
 mark-requires c κs = search needs
 
@@ -140,7 +126,6 @@ at-kept c =
     (λ w. w .1 ∙ q ∙ ap (λ b. withRead s (s .first) (s .second) (s .«first_end») (cond b (over (a .n) (a .f .words) (a .p .view)) (a .p .view))) (sym (w .0 .left) ∙ k))
     (c .if2 .came)
 
--- src/turns.rt:142:1
 returns : tie.Need-returns
 unfolding readBy
 returns c =
@@ -149,7 +134,6 @@ returns c =
     ap (λ m. record { register = j .if2 .q .register; task = j .if2 .q .task; first = j .if2 .q .first; second = j .if2 .q .second; «first_end» = j .if2 .q .«first_end»; view = j .if2 .q .view; moved = m }) (c .mark .ensures)
     ∙ ap (λ q. record { register = q .register; task = q .task; first = q .first; second = q .second; «first_end» = q .«first_end»; view = q .view; moved = markFrom (differs ascending (q .first) (q .second)) (a .f .passed) 0 (q .moved) }) (at-kept j)
 
--- src/turns.rt:142:1
 returns-2 : tie.Need-returns-2
 unfolding readBy
 returns-2 c =

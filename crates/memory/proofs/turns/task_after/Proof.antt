@@ -10,64 +10,51 @@ use borrow.Author.Needs.{needs}
 use Rattle.memory.proofs.turns.task_after.Statement.{statement}
 use Rattle.memory.proofs.turns.task_after.Tie as tie
 
--- src/turns.rt:202:23
 enum-told : tie.Need-enum-told
 enum-told c = search needs
 
--- src/turns.rt:203:22
 enum-known-k : tie.Need-enum-known-k
 enum-known-k c = search needs
 
--- src/turns.rt:207:37
 add-t9 : tie.Need-add-t9
 add-t9 c = let q = ap turnsOf (c .before .before .k .given .1) in record { fits = omega arith }
 
--- src/turns.rt:210:24
 enum-known-k-2 : tie.Need-enum-known-k-2
 enum-known-k-2 c = search needs
 
--- src/turns.rt:215:28
 add-t12 : tie.Need-add-t12
 add-t12 c = let q = ap turnsOf (c .before .before .k2 .given .1) in record { fits = omega arith }
 
--- src/turns.rt:220:28
 add-t13 : tie.Need-add-t13
 add-t13 c = let q = ap turnsOf (c .before .before .k2 .given .1) in record { fits = omega arith }
 
--- src/turns.rt:228:14
 enum-told-2 : tie.Need-enum-told-2
 enum-told-2 c = search needs
 
--- src/turns.rt:197:1
 returns : tie.Need-returns
 returns c = search needs
 
--- src/turns.rt:197:1
 returns-2 : tie.Need-returns-2
 returns-2 c = search needs
 
--- src/turns.rt:197:1
 returns-3 : tie.Need-returns-3
 returns-3 c =
     let f = c .before .before .before .before .args .f in
     let k = c .before .before .k .given in
     sym (ap (taskBy f) (k .1) ∙ ap (λ b. cond b Idle (Scan (k .0 .0 + 1))) (c .if1 .left))
 
--- src/turns.rt:197:1
 returns-4 : tie.Need-returns-4
 returns-4 c =
     let f = c .before .before .before .before .args .f in
     let k = c .before .before .k2 .given in
     sym (ap (taskBy f) (k .1) ∙ ap (λ b. cond b (Ready (k .0 .0) (f .at) (k .0 .1 .0 + 1)) (Update (k .0 .0) (k .0 .1 .0 + 1))) (c .if2 .taken))
 
--- src/turns.rt:197:1
 returns-5 : tie.Need-returns-5
 returns-5 c =
     let f = c .before .before .before .before .args .f in
     let k = c .before .before .k2 .given in
     sym (ap (taskBy f) (k .1) ∙ ap (λ b. cond b (Ready (k .0 .0) (f .at) (k .0 .1 .0 + 1)) (Update (k .0 .0) (k .0 .1 .0 + 1))) (c .if2 .left))
 
--- src/turns.rt:197:1
 returns-6 : tie.Need-returns-6
 returns-6 c = search needs
 

@@ -6,43 +6,33 @@ use borrow.Author.Needs.{needs}
 use Rattle.memory.proofs.turns.written.Statement.{statement}
 use Rattle.memory.proofs.turns.written.Tie as tie
 
--- src/turns.rt:241:23
 enum-told : tie.Need-enum-told
 enum-told c = search needs
 
--- src/turns.rt:242:36
 enum-told-2 : tie.Need-enum-told-2
 enum-told-2 c = search needs
 
--- src/turns.rt:243:47
 enum-told-3 : tie.Need-enum-told-3
 enum-told-3 c = search needs
 
--- src/turns.rt:244:23
 enum-known-k : tie.Need-enum-known-k
 enum-known-k c = search needs
 
--- src/turns.rt:247:22
 add-t10 : tie.Need-add-t10
 add-t10 c = search needs
 
--- src/turns.rt:251:13
 lay-requires : tie.Need-lay-requires
 lay-requires c κs = search needs
 
--- src/turns.rt:233:1
 returns : tie.Need-returns
 returns c = search needs
 
--- src/turns.rt:233:1
 returns-2 : tie.Need-returns-2
 returns-2 c = search needs
 
--- src/turns.rt:233:1
 returns-3 : tie.Need-returns-3
 returns-3 c = search needs
 
--- src/turns.rt:233:1
 returns-4 : tie.Need-returns-4
 unfolding written
 returns-4 c =
