@@ -15,6 +15,7 @@ use Rattle.memory.specs.declared.Outcome.{Outcome}
 use Rattle.memory.specs.Tables.{stateOf, outcomeOf}
 use Rattle.memory.specs.Requests.{itemOf, pageAfter}
 
+-- whether no record was found
 abbrev pub isNone : Reading → Bool
 isNone (Found x next) = false
 isNone End = true

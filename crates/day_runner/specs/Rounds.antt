@@ -15,6 +15,7 @@ use Rattle.daytext.specs.Lines.{textOf}
 use Rattle.daytext.specs.Buffer.{longest, laidPlace, laidText}
 use Rattle.unbounded.specs.declared.Day.{Day}
 use Rattle.unbounded.specs.declared.Process.{Process}
+use Rattle.unbounded.specs.Days.{blankDay}
 use Rattle.memory.specs.declared.Outcome.{Outcome}
 use Rattle.day_runner.specs.declared.input.Input.{Input}
 use Rattle.day_runner.specs.declared.records.Place.{Place}
@@ -30,9 +31,25 @@ pub record Stand : Type 0 where
   pub page : List ℕ
   pub out : List ℕ
 
+-- the beginning: "A blank day has both 0", and nothing is read or laid
+abbrev pub blankPlace : Place
+blankPlace = record { day = blankDay; input = record { at = 0; end = 0; last = false }; written = 0; ended = false; left = 0 }
+
+-- a place whose input was filled up, in a buffer of that many bytes: no record is empty, so that there are at most as many
+abbrev pub refilledPlace : Place → Input → ℕ → Place
+refilledPlace p i size = record { day = p .day; input = i; written = p .written; ended = p .ended; left = size }
+
+-- a place whose output was written; where it could not be, all is done
+abbrev pub flushedPlace : Place → Bool → Place
+flushedPlace p went = record { day = p .day; input = p .input; written = 0; ended = cond went (p .ended) true; left = p .left }
+
 -- whether an output of that many bytes has room for the line of a record and the last two
 abbrev pub hasRoom : Place → ℕ → Bool
 hasRoom p room = leb (p .written + (longest + (longest + longest))) room
+
+-- whether the output can take more before it is written
+abbrev pub isWaiting : Place → ℕ → Bool
+isWaiting p room = not (p .ended) && hasRoom p room
 
 -- whether the input has a whole record, the longest of which takes 10 bytes, or no more will come
 abbrev pub hasInput : Input → Bool
@@ -42,9 +59,12 @@ hasInput i = i .last || leb (i .at + 10) (i .end)
 unfoldable pub goes : Place → ℕ → Bool
 goes p room = not (eqb (p .left) 0) && (not (p .ended) && (hasRoom p room && hasInput (p .input)))
 
--- what stands next in the input
+-- what is left of the input, and what stands next in it
+abbrev pub inputLeft : Input → List ℕ → List ℕ
+inputLeft i bytes = take (i .end - i .at) (drop (i .at) bytes)
+
 unfoldable pub nextIn : Input → List ℕ → Reading
-nextIn i bytes = reading (take (i .end - i .at) (drop (i .at) bytes))
+nextIn i bytes = reading (inputLeft i bytes)
 
 -- how many of eight records are lent: as many as an opening asks for, else as the day has processes
 abbrev pub wanted : Day → Request → ℕ
@@ -71,20 +91,46 @@ placePast p o w End =
 placePast p o w (Refused k) =
     record { day = o .day; input = record { at = p .input .end; end = p .input .end; last = true }; written = w; ended = false; left = p .left - 1 }
 
--- one round, in which x is read
+-- a day with its table of eight records and its page list
+pub record Held : Type 0 where
+  pub day : Day
+  pub table : List Process
+  pub page : List ℕ
+
+-- the outcome once x is asked of the records that are lent, and what is held then
+abbrev pub outcomeAfter : Held → Reading → Outcome
+outcomeAfter h x = askedOutcome (h .day) (take (lentTo (h .day) (requestOf x)) (h .table)) (h .page) x
+
+abbrev pub heldAfter : Held → Reading → Held
+heldAfter h x =
+    let n = lentTo (h .day) (requestOf x) in
+    let ys = take n (h .table) in
+    record {
+      day = outcomeAfter h x .day;
+      table = askedTable (h .day) ys (h .page) x ++ drop n (h .table);
+      page = askedPage (h .day) ys (h .page) x;
+    }
+
+-- the words that the line of x shows
+abbrev pub wordsAfter : Held → Reading → List ℕ
+wordsAfter h x = let after = heldAfter h x in take (after .day .count) (after .page)
+
+-- what a run holds
+abbrev pub heldIn : Stand → Held
+heldIn s = record { day = s .place .day; table = s .table; page = s .page }
+
+-- one round, in which x is read: it is asked, and its line is laid
 abbrev pub roundOn : Stand → Reading → Stand
 roundOn s x =
     let p = s .place in
-    let n = lentTo (p .day) (requestOf x) in
-    let ys = take n (s .table) in
-    let o = askedOutcome (p .day) ys (s .page) x in
-    let page = askedPage (p .day) ys (s .page) x in
-    let words = take (o .day .count) page in
+    let h = heldIn s in
+    let o = outcomeAfter h x in
+    let after = heldAfter h x in
     record {
-      place = placePast p o (laidPlace (lineOf o x) words (s .out) (p .written)) x;
-      table = askedTable (p .day) ys (s .page) x ++ drop n (s .table);
-      page = page;
-      out = laidText (lineOf o x) words (s .out) (p .written);
+      place = placePast p o (laidPlace (lineOf o x) (wordsAfter h x) (s .out) (p .written)) x;
+      table = after .table;
+      page = after .page;
+      out = laidText (lineOf o x) (wordsAfter h x) (s .out) (p .written);
     }
 
 -- one round on a buffer
@@ -102,28 +148,9 @@ ran r bytes page out = rounds (r .place .left) bytes (record { place = r .place;
 
 -- ---- what a file prints
 
--- a day with its table of eight records and its page list
-pub record Held : Type 0 where
-  pub day : Day
-  pub table : List Process
-  pub page : List ℕ
-
--- what is held once x is asked, and the text of its line
-abbrev pub heldAfter : Held → Reading → Held
-heldAfter h x =
-    let n = lentTo (h .day) (requestOf x) in
-    let ys = take n (h .table) in
-    record {
-      day = askedOutcome (h .day) ys (h .page) x .day;
-      table = askedTable (h .day) ys (h .page) x ++ drop n (h .table);
-      page = askedPage (h .day) ys (h .page) x;
-    }
-
+-- the text of the line of x
 abbrev pub lineAfter : Held → Reading → List ℕ
-lineAfter h x =
-    let ys = take (lentTo (h .day) (requestOf x)) (h .table) in
-    let o = askedOutcome (h .day) ys (h .page) x in
-    textOf (lineOf o x) (take (o .day .count) (askedPage (h .day) ys (h .page) x))
+lineAfter h x = textOf (lineOf (outcomeAfter h x) x) (wordsAfter h x)
 
 -- what is left of a file after x, if it goes on: after a refusal nothing is left but its end
 abbrev pub leftAfter : List ℕ → Reading → Option (List ℕ)
@@ -139,13 +166,6 @@ orNothing f (some bs) = f bs
 abbrev pub printed : ℕ → Held → List ℕ → List ℕ
 printed zero h bs = []
 printed (suc k) h bs = let x = reading bs in lineAfter h x ++ orNothing (printed k (heldAfter h x)) (leftAfter bs x)
-
--- what a run holds, and what is left of its input
-abbrev pub heldIn : Stand → Held
-heldIn s = record { day = s .place .day; table = s .table; page = s .page }
-
-abbrev pub inputLeft : Input → List ℕ → List ℕ
-inputLeft i bytes = take (i .end - i .at) (drop (i .at) bytes)
 
 -- a run that can go on for k rounds: the file lies whole in its input, which has not ended, and its output has room
 pub record CanPrint (k : ℕ) (bytes : List ℕ) (s : Stand) : Type 0 where

@@ -11,12 +11,13 @@ use unbounded::Day;
 use unbounded::Process;
 ghost use mathlib.Core.Path.{_≡_};
 ghost use Prim.Native.Nat.{_+_, _≤_, _<_};
-ghost use lib.ListN.{length, take};
+ghost use lib.ListN.{length, take, replicate};
+ghost use Rattle.unbounded.specs.Processes.{zeroProcess};
 ghost use Rattle.daytext.specs.Buffer.{laidPlace, laidText};
 ghost use Rattle.day_runner.specs.Input.{Within, Ends};
 ghost use Rattle.day_runner.specs.Records.{isNone, requestOf, unaskedOf, askedOutcome, askedTable, askedPage};
 ghost use Rattle.day_runner.specs.Printed.{lineOf};
-ghost use Rattle.day_runner.specs.Rounds.{hasRoom, goes, nextIn, lentTo, placePast, ran};
+ghost use Rattle.day_runner.specs.Rounds.{blankPlace, refilledPlace, flushedPlace, hasRoom, isWaiting, goes, nextIn, lentTo, placePast, ran};
 
 // The longest record, in bytes.
 const WHOLE: usize = 10;
@@ -45,7 +46,7 @@ fn with_table(place: Place, table: [Process; 8]) -> Running
 
 // The beginning: a blank day.
 pub fn start() -> Running
-    ensures { λ x. ⌜ Within (x .place .input) 0 ⌝ }
+    ensures { λ x. ⌜ (x .place ≡ blankPlace) × (x .table ≡ replicate 8 zeroProcess) ⌝ }
 {
     let input = Input {
         at: 0,
@@ -73,7 +74,9 @@ fn has_room(at: Place, room: usize) -> bool
 }
 
 // Whether the output can take more before it is written.
-pub fn is_waiting(at: Place, room: usize) -> bool {
+pub fn is_waiting(at: Place, room: usize) -> bool
+    ensures { λ b. ⌜ b ≡ isWaiting at room ⌝ }
+{
     if at.ended {
         return false;
     }
@@ -82,7 +85,7 @@ pub fn is_waiting(at: Place, room: usize) -> bool {
 
 // After the output was written, or could not be.
 pub fn flushed(r: Running, went: bool) -> Running
-    ensures { λ x. ⌜ x .place .input ≡ r .place .input ⌝ }
+    ensures { λ x. ⌜ (x .place ≡ flushedPlace (r .place) went) × (x .table ≡ r .table) ⌝ }
 {
     let table = r.table;
     let at = r.place;
@@ -101,7 +104,7 @@ pub fn flushed(r: Running, went: bool) -> Running
 
 // A run whose input was filled up, in a buffer of that many bytes. No record is empty, so there are at most as many as bytes.
 pub fn refilled(r: Running, input: Input, size: usize) -> Running
-    ensures { λ x. ⌜ x .place .input ≡ input ⌝ }
+    ensures { λ x. ⌜ (x .place ≡ refilledPlace (r .place) input size) × (x .table ≡ r .table) ⌝ }
 {
     let table = r.table;
     let at = r.place;

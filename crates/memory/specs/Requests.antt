@@ -25,6 +25,7 @@ pageAfter page r (Update d w) = page
 pageAfter page r (Scan d) = page
 pageAfter page r (Turn d) = r .page
 
+-- which requests open a day, and which are calls
 abbrev pub isOpening : Request → Bool
 isOpening (Open k) = true
 isOpening (Update d w) = false

@@ -41,7 +41,7 @@ cleared n rs = over n (map (laid n zeroRegister) rs) rs
 
 -- ---- the order of reading
 
--- place p of a collect is that of register `register p`; register j is read into place `place j`; both count from 0
+-- place p of a collect holds register `register p`, and register j is read into place `place j`; both count from 0
 pub record Order : Type 0 where
   pub register : ℕ → ℕ
   pub place : ℕ → ℕ

@@ -1,5 +1,5 @@
 -- `day_runner::main` is safe: the input is kept within its buffer, and the passes are counted down.
-use mathlib.Core.Path.{_≡_, sym, _∙_}
+use mathlib.Core.Path.{_≡_, sym, subst, _∙_}
 use native.Mathlib.Omega.{arith}
 use lib.ListN.{length}
 use Rattle.day_runner.specs.Input.{Within}
@@ -23,7 +23,7 @@ start-requires c κs = tt
 
 loop-holds : tie.Need-loop-holds Inv-loop μ-loop
 loop-holds c = (
-  record { start = c .start .ensures .start; stop = let s = c .start .ensures .stop in omega arith },
+  subst (λ p. Within (p .input) (length (c .before .before .large-buffer .result))) (sym (c .start .ensures .0)) (record { start = omega arith; stop = omega arith }),
   c .before .before .large-buffer .ensures,
   c .before .large-buffer2 .ensures,
 )

@@ -1,5 +1,5 @@
 -- `day_runner::pass` is safe: the input is kept within its buffer.
-use mathlib.Core.Path.{sym, subst}
+use mathlib.Core.Path.{sym, ap, subst}
 use lib.ListN.{length}
 use Rattle.day_runner.specs.Input.{Within}
 use borrow.Author.Needs.{needs}
@@ -16,7 +16,7 @@ slice-aggregate-run : tie.Need-slice-aggregate-run
 slice-aggregate-run c = search needs
 
 run-requires : tie.Need-run-requires
-run-requires c κs = subst (λ i. Within i (length (c .before .before .before .before .before .before .refill .last .1 .0))) (sym (c .before .before .before .refilled .ensures)) (c .before .before .before .before .before .before .refill .ensures)
+run-requires c κs = subst (λ i. Within i (length (c .before .before .before .before .before .before .refill .last .1 .0))) (ap (λ p. p .input) (sym (c .before .before .before .refilled .ensures .0))) (c .before .before .before .before .before .before .refill .ensures)
 
 is-waiting-requires : tie.Need-is-waiting-requires
 is-waiting-requires c κs = search needs
@@ -43,7 +43,7 @@ same-length-4 : tie.Need-same-length-4
 same-length-4 c = search needs
 
 returns-2 : tie.Need-returns-2
-returns-2 c = subst (λ i. Within i (length (c .before .before .before .before .before .before .before .before .before .before .before .before .before .before .before .refill .last .1 .0))) (sym (c .flushed .ensures)) (c .before .before .before .before .before .before .before .before .run .ensures .0)
+returns-2 c = subst (λ i. Within i (length (c .before .before .before .before .before .before .before .before .before .before .before .before .before .before .before .refill .last .1 .0))) (ap (λ p. p .input) (sym (c .flushed .ensures .0))) (c .before .before .before .before .before .before .before .before .run .ensures .0)
 
 pub pass-spec : {M : Type 1} → statement M
 pass-spec =

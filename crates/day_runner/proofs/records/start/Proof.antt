@@ -1,7 +1,6 @@
 -- `day_runner::records::start` meets its contract.
-use mathlib.Core.Path.{sym, subst}
-use native.Mathlib.Omega.{arith}
-use Rattle.day_runner.specs.Input.{Within}
+use mathlib.Core.Path.{ap, _∙_}
+use mathlib.Core.Bool.{false}
 use borrow.Author.Needs.{needs}
 use Rattle.day_runner.proofs.records.start.Statement.{statement}
 use Rattle.day_runner.proofs.records.start.Tie as tie
@@ -16,7 +15,10 @@ with-table-requires : tie.Need-with-table-requires
 with-table-requires c κs = search needs
 
 returns : tie.Need-returns
-returns c = subst (λ p. Within (p .input) 0) (sym (c .with-table .ensures .0)) (record { start = omega arith; stop = omega arith })
+returns c = (
+  c .with-table .ensures .0 ∙ ap (λ d. record { day = d; input = record { at = 0; end = 0; last = false }; written = 0; ended = false; left = 0 }) (c .before .before .blank .ensures),
+  c .with-table .ensures .1 ∙ c .before .blank2 .ensures,
+)
 
 pub start-spec : {M : Type 1} → statement M
 start-spec = tie.close (tie.spec blank-requires blank-requires-2 with-table-requires returns)
