@@ -22,13 +22,13 @@ use Rattle.daytext.proofs.Laying.{in-turn, laid-as, laid-nothing, laid-with-roo
 use Rattle.daytext.proofs.Lengths.{line-fits}
 use Rattle.unbounded.specs.declared.Register.{Register}
 use Rattle.unbounded.specs.declared.Process.{Process}
-use Rattle.unbounded.specs.declared.Day.{Day}
+use Rattle.snapshot.specs.declared.Day.{Day}
 use Rattle.unbounded.specs.declared.Task.{Task}
 use Rattle.unbounded.specs.declared.Task.the-variants.{Idle, Scan as Scanning, Update as Updating, Ready}
 use Rattle.unbounded.specs.Registers.{Order, ascending}
 use Rattle.unbounded.specs.Turns.{Found as Page, foundBy, scanTurn, updateTurn, turned, turnedBy, position, reads}
 use Rattle.unbounded.specs.Days.{State, turnOf, refusal, accept, turnBy, stepped, processOf, registerRead}
-use Rattle.memory.specs.declared.Outcome.{Outcome}
+use Rattle.snapshot.specs.declared.Outcome.{Outcome}
 use Rattle.memory.specs.Tables.{stateOf}
 use Rattle.memory.proofs.Tables.{fit, stepped-refused, stepped-accepted}
 use Rattle.day_runner.specs.declared.input.Input.{Input}

@@ -13,9 +13,9 @@ use Rattle.snapshot.specs.declared.Request.{Request}
 use Rattle.dayfile.specs.declared.Reading.{Reading}
 use Rattle.dayfile.specs.declared.Reading.the-variants.{Found, End, Refused}
 use Rattle.daytext.specs.Buffer.{laidPlace, laidText}
-use Rattle.unbounded.specs.declared.Day.{Day}
+use Rattle.snapshot.specs.declared.Day.{Day}
 use Rattle.unbounded.specs.declared.Process.{Process}
-use Rattle.memory.specs.declared.Outcome.{Outcome}
+use Rattle.snapshot.specs.declared.Outcome.{Outcome}
 use Rattle.day_runner.specs.declared.records.Place.{Place}
 use Rattle.day_runner.specs.Input.{Within, Ends}
 use Rattle.day_runner.specs.Records.{requestOf, askedOutcome, askedTable, askedPage}

@@ -11,7 +11,7 @@ use Rattle.dayfile.specs.declared.Reading.{Reading}
 use Rattle.dayfile.specs.declared.Reading.the-variants.{Found, End, Refused}
 use Rattle.daytext.specs.declared.Line.{Line}
 use Rattle.daytext.specs.declared.Line.the-variants as Printed
-use Rattle.memory.specs.declared.Outcome.{Outcome}
+use Rattle.snapshot.specs.declared.Outcome.{Outcome}
 
 -- the line of an accepted call, with its event number ("entry", "asked"); only a call has one
 abbrev pub callLine : ℕ → Request → Line

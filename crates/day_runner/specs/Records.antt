@@ -8,10 +8,10 @@ use Rattle.snapshot.specs.declared.Request.the-variants.{Turn}
 use Rattle.snapshot.specs.declared.Answer.the-variants.{Read}
 use Rattle.dayfile.specs.declared.Reading.{Reading}
 use Rattle.dayfile.specs.declared.Reading.the-variants.{Found, End, Refused}
-use Rattle.unbounded.specs.declared.Day.{Day}
+use Rattle.snapshot.specs.declared.Day.{Day}
 use Rattle.unbounded.specs.declared.Process.{Process}
 use Rattle.unbounded.specs.Days.{State, stepped}
-use Rattle.memory.specs.declared.Outcome.{Outcome}
+use Rattle.snapshot.specs.declared.Outcome.{Outcome}
 use Rattle.memory.specs.Tables.{stateOf, outcomeOf}
 use Rattle.memory.specs.Requests.{itemOf, pageAfter}
 

@@ -13,10 +13,10 @@ use Rattle.dayfile.specs.declared.Reading.{Reading}
 use Rattle.dayfile.specs.declared.Reading.the-variants.{Found, End, Refused}
 use Rattle.daytext.specs.Lines.{textOf}
 use Rattle.daytext.specs.Buffer.{longest, laidPlace, laidText}
-use Rattle.unbounded.specs.declared.Day.{Day}
+use Rattle.snapshot.specs.declared.Day.{Day}
 use Rattle.unbounded.specs.declared.Process.{Process}
-use Rattle.unbounded.specs.Days.{blankDay}
-use Rattle.memory.specs.declared.Outcome.{Outcome}
+use Rattle.snapshot.specs.Requests.{blankDay}
+use Rattle.snapshot.specs.declared.Outcome.{Outcome}
 use Rattle.day_runner.specs.declared.input.Input.{Input}
 use Rattle.day_runner.specs.declared.records.Place.{Place}
 use Rattle.day_runner.specs.declared.records.Running.{Running}

@@ -1,7 +1,7 @@
 // What the runner prints: the line of each record, by its answer, and those of the end.
 use dayfile::Reading;
 use daytext::Line;
-use memory::Outcome;
+use snapshot::Outcome;
 use snapshot::Answer;
 use snapshot::Request;
 ghost use mathlib.Core.Path.{_≡_};

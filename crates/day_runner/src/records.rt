@@ -3,11 +3,11 @@ use crate::input::Input;
 use crate::printed;
 use dayfile::Reading;
 use daytext::LONGEST;
-use memory::Outcome;
+use snapshot::Outcome;
 use memory::table;
 use snapshot::Answer;
 use snapshot::Request;
-use unbounded::Day;
+use snapshot::Day;
 use unbounded::Process;
 ghost use mathlib.Core.Path.{_≡_};
 ghost use Prim.Native.Nat.{_+_, _≤_, _<_};
@@ -54,7 +54,7 @@ pub fn start() -> Running
         last: false,
     };
     let place = Place {
-        day: unbounded::blank(),
+        day: snapshot::blank(),
         input,
         written: 0,
         ended: false,

@@ -14,9 +14,9 @@ use Rattle.snapshot.specs.declared.Refusal.{Refusal}
 use Rattle.snapshot.specs.declared.Answer.the-variants.{Refused as RefusedBy}
 use Rattle.snapshot.specs.declared.Request.{Request}
 use Rattle.snapshot.specs.declared.Request.the-variants.{Open, Update, Scan, Turn}
-use Rattle.unbounded.specs.declared.Day.{Day}
+use Rattle.snapshot.specs.declared.Day.{Day}
 use Rattle.unbounded.specs.declared.Process.{Process}
-use Rattle.memory.specs.declared.Outcome.{Outcome}
+use Rattle.snapshot.specs.declared.Outcome.{Outcome}
 use Rattle.memory.specs.declared.checks.Check.{Check}
 use Rattle.memory.specs.declared.checks.Check.the-variants.{Passed, Refused}
 use Rattle.unbounded.specs.Registers.{ascending}

@@ -31,7 +31,7 @@ use native.Mathlib.Decide.{decLt, ℕ-discrete}
 use mathlib.Core.Logic.{by-cases}
 use native.Mathlib.Nat.{mul-le-mul}
 use Rattle.snapshot.specs.declared.Answer.the-variants.{Refused}
-use Rattle.unbounded.specs.declared.Day.{Day}
+use Rattle.snapshot.specs.declared.Day.{Day}
 use Rattle.memory.specs.Tables.{isRefusal}
 
 -- whether a check refused

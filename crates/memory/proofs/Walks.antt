@@ -47,12 +47,12 @@ use Rattle.unbounded.proofs.Task as K
 use Rattle.unbounded.proofs.Task.Laws as K′
 use Rattle.memory.proofs.turns.Find as F
 use Rattle.memory.proofs.turns.Find.Laws as F′
-use Rattle.unbounded.proofs.Day as D
-use Rattle.unbounded.proofs.Day.Laws as D′
+use Rattle.snapshot.proofs.Day as D
+use Rattle.snapshot.proofs.Day.Laws as D′
 use Rattle.memory.proofs.checks.Check as C
 use Rattle.memory.proofs.checks.Check.Laws as C′
-use Rattle.memory.proofs.Outcome as O
-use Rattle.memory.proofs.Outcome.Laws as O′
+use Rattle.snapshot.proofs.Outcome as O
+use Rattle.snapshot.proofs.Outcome.Laws as O′
 use Rattle.snapshot.proofs.Answer as N
 use Rattle.snapshot.proofs.Answer.Laws as N′
 use Rattle.snapshot.proofs.Request as Q

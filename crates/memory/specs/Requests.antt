@@ -6,7 +6,7 @@ use lib.Dec.{ltb}
 use Rattle.snapshot.specs.Demand.{Result}
 use Rattle.snapshot.specs.declared.Request.{Request}
 use Rattle.snapshot.specs.declared.Request.the-variants.{Open, Update, Scan, Turn}
-use Rattle.unbounded.specs.declared.Day.{Day}
+use Rattle.snapshot.specs.declared.Day.{Day}
 use Rattle.unbounded.specs.declared.Task.{Task}
 use Rattle.unbounded.specs.declared.Task.the-variants.{Idle, Scan as Scanning, Update as Updating}
 use Rattle.unbounded.specs.Days.{State, Item, openFor, updateCall, scanCall, turnOf}

@@ -9,9 +9,9 @@ use Rattle.snapshot.specs.Demand.{Result}
 use Rattle.snapshot.specs.declared.Refusal.{Refusal}
 use Rattle.snapshot.specs.declared.Answer.{Answer}
 use Rattle.snapshot.specs.declared.Answer.the-variants.{Read, Refused, Opened, Called}
-use Rattle.unbounded.specs.declared.Day.{Day}
+use Rattle.snapshot.specs.declared.Day.{Day}
 use Rattle.unbounded.specs.declared.Process.{Process}
-use Rattle.memory.specs.declared.Outcome.{Outcome}
+use Rattle.snapshot.specs.declared.Outcome.{Outcome}
 use Rattle.unbounded.specs.declared.Register.{Register}
 use Rattle.unbounded.specs.declared.Task.{Task}
 use Rattle.memory.specs.declared.turns.Find.{Find}

@@ -1,9 +1,9 @@
 // The range checks of one record, and the refusals of a call or a turn in document 01's order.
-use crate::Outcome;
+use snapshot::Outcome;
 use crate::arrays;
 use snapshot::Answer;
 use snapshot::Refusal;
-use unbounded::Day;
+use snapshot::Day;
 use unbounded::Process;
 use unbounded::Task;
 ghost use Prim.Native.Nat.{_+_, _-_, _<_};

@@ -1,6 +1,6 @@
 // The kinds of requests: what each asks of the table.
 use snapshot::Request;
-use unbounded::Day;
+use snapshot::Day;
 use unbounded::Task;
 ghost use mathlib.Core.Path.{_≡_};
 ghost use Rattle.memory.specs.Requests.{isOpening, isCall, taskFor, isShort};

@@ -1,6 +1,6 @@
 // The table of process records, lent as a slice. Each function here is thin: it takes a record out, calls the covered function on
 // the record by value, and stores it back.
-use crate::Outcome;
+use snapshot::Outcome;
 use crate::arrays;
 use crate::checks;
 use crate::checks::Check;
@@ -9,7 +9,7 @@ use crate::turns;
 use crate::turns::Find;
 use snapshot::Answer;
 use snapshot::Request;
-use unbounded::Day;
+use snapshot::Day;
 use unbounded::Process;
 use unbounded::Register;
 use unbounded::Task;

@@ -1,7 +1,13 @@
-// What is asked of every method of the register, what it answers, and the papers' number of each refusal.
+// What is asked of every method of the register: the day, requests, answers, and the papers' number of each refusal.
 ghost use mathlib.Core.Path.{_≡_};
 ghost use Rattle.snapshot.specs.Refusals.{numberOf};
-ghost use Rattle.snapshot.specs.Requests.{numberIn};
+ghost use Rattle.snapshot.specs.Requests.{blankDay, numberIn};
+
+// A day: its number of processes and its event number.
+pub struct Day {
+    pub count: u32,
+    pub event: u32,
+}
 
 // What is asked of a day: an opening with its count, an update call (document 01: an entry call) with its word, a scan call
 // (document 01: a page call), or a turn.
@@ -35,6 +41,19 @@ pub enum Answer {
     Read,
     Page { lender: u32, at: u32, turns: u32 },
     Written { turns: u32 },
+}
+
+// A day after an item, and the item's answer.
+pub struct Outcome {
+    pub day: Day,
+    pub answer: Answer,
+}
+
+// A blank day.
+pub fn blank() -> Day
+    ensures { λ d. ⌜ d ≡ blankDay ⌝ }
+{
+    Day { count: 0, event: 0 }
 }
 
 // The number that document 01 gives to a refusal.

@@ -14,7 +14,7 @@ use Rattle.snapshot.specs.declared.Refusal.the-variants.{CountRange, ProcessRan
 use Rattle.snapshot.specs.declared.Answer.the-variants.{Opened, Called}
 use Rattle.unbounded.specs.declared.Register.{Register}
 use Rattle.unbounded.specs.declared.Process.{Process}
-use Rattle.unbounded.specs.declared.Day.{Day}
+use Rattle.snapshot.specs.declared.Day.{Day}
 use Rattle.unbounded.specs.declared.Task.{Task}
 use Rattle.unbounded.specs.declared.Task.the-variants.{Idle, Scan, Update, Ready}
 use Rattle.unbounded.specs.Registers.{noRegister, value, Order, ascending}
@@ -25,10 +25,6 @@ use Rattle.unbounded.specs.Turns.{reads, turned}
 pub record State : Type 0 where
   pub day : Day
   pub table : List Process
-
--- "A blank day has both 0"
-abbrev pub blankDay : Day
-blankDay = record { count = 0; event = 0 }
 
 -- what can be asked of a day; processes are numbered from 1, and a turn lends a page list
 pub data Item : Type 0 where

@@ -1,6 +1,6 @@
 // Figure 3, the unbounded single-writer method: the types of its registers and processes, and its limits.
 ghost use mathlib.Core.Path.{_≡_};
-ghost use Rattle.unbounded.specs.Days.{readsUpTo8, blankDay};
+ghost use Rattle.unbounded.specs.Days.{readsUpTo8};
 
 // A register (document 01: a row): its word, how often it was written, and the page that its writer had read, with its instant.
 pub struct Register {
@@ -29,19 +29,6 @@ pub struct Process {
     pub first_end: u32,
     pub view: [u32; 8],
     pub moved: [bool; 8],
-}
-
-// A day: its number of processes and its event number.
-pub struct Day {
-    pub count: u32,
-    pub event: u32,
-}
-
-// A blank day.
-pub fn blank() -> Day
-    ensures { λ d. ⌜ d ≡ blankDay ⌝ }
-{
-    Day { count: 0, event: 0 }
 }
 
 // The most reads of a scan, for 1 to 8 processes.

@@ -38,9 +38,9 @@ use denote.Triple.Table.{entered, cited}
 use denote.Triple.Walked.{Stays, stay-slice, stay-dropped, walkOf, ends-at, walked, goes-slice, goes-dropped, walk-meets}
 use Rattle.dayfile.specs.declared.Reading.{Reading}
 use Rattle.dayfile.specs.declared.Reading.the-variants.{Found, End, Refused}
-use Rattle.unbounded.specs.declared.Day.{Day}
+use Rattle.snapshot.specs.declared.Day.{Day}
 use Rattle.unbounded.specs.declared.Process.{Process}
-use Rattle.memory.specs.declared.Outcome.{Outcome}
+use Rattle.snapshot.specs.declared.Outcome.{Outcome}
 use Rattle.memory.specs.Tables.{outcomeOf}
 use Rattle.memory.proofs.Walks.{held, Row, also, a-bool, a-day, a-request, an-outcome, leaves-if, says-all, three-facts, taken}
 use Rattle.memory.proofs.Calls.{calls-is}

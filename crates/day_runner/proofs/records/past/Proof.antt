@@ -9,7 +9,7 @@ use Rattle.dayfile.proofs.Reading as X
 use Rattle.dayfile.specs.declared.Reading.{Reading}
 use Rattle.dayfile.specs.declared.Reading.the-variants.{Found, End, Refused}
 use Rattle.daytext.specs.Buffer.{laidPlace}
-use Rattle.memory.specs.declared.Outcome.{Outcome}
+use Rattle.snapshot.specs.declared.Outcome.{Outcome}
 use Rattle.day_runner.specs.declared.records.Place.{Place}
 use Rattle.day_runner.specs.Printed.{lineOf, isEnd}
 use mathlib.Core.Path.{_≡_, refl, sym, ap, _∙_}

@@ -42,10 +42,10 @@ use denote.Triple.Table.{entered, cited}
 use denote.Triple.Walked.{says, needs, Stays, stay-slice, stay-dropped, walkOf, ends-at, walked, goes-slice, goes-dropped, walk-meets}
 use Rattle.snapshot.specs.Refusals.{firstCause}
 use Rattle.snapshot.specs.declared.Answer.the-variants.{Called}
-use Rattle.unbounded.specs.declared.Day.{Day}
+use Rattle.snapshot.specs.declared.Day.{Day}
 use Rattle.unbounded.specs.declared.Process.{Process}
 use Rattle.unbounded.specs.declared.Task.{Task}
-use Rattle.memory.specs.declared.Outcome.{Outcome}
+use Rattle.snapshot.specs.declared.Outcome.{Outcome}
 use Rattle.unbounded.specs.Processes.{noProcess, begin}
 use Rattle.unbounded.specs.Days.{itemCauses, advance, calledBy}
 use Rattle.memory.specs.Tables.{calledWith, stateOf, outcomeOf, acceptedOutcome}

@@ -42,9 +42,9 @@ use denote.Triple.Walked.{Stays, stay-slice, stay-dropped, walkOf, ends-at, walk
 use Rattle.snapshot.specs.Refusals.{firstCause}
 use Rattle.snapshot.specs.Demand.{Result}
 use Rattle.snapshot.specs.declared.Refusal.{Refusal}
-use Rattle.unbounded.specs.declared.Day.{Day}
+use Rattle.snapshot.specs.declared.Day.{Day}
 use Rattle.unbounded.specs.declared.Process.{Process}
-use Rattle.memory.specs.declared.Outcome.{Outcome}
+use Rattle.snapshot.specs.declared.Outcome.{Outcome}
 use Rattle.unbounded.specs.Processes.{zeroProcess}
 use Rattle.unbounded.specs.Days.{State, openFor, openingChecks, refusal, accept, openedBy, stepped}
 use Rattle.memory.specs.Steps.{asOption}

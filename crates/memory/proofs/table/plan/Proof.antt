@@ -39,7 +39,7 @@ use denote.Triple.Table.{entered, cited}
 use denote.Triple.Walked.{says, Stays, stay-dropped, walkOf, ends-at, walked, goes-dropped, walk-meets}
 use Rattle.snapshot.specs.Lists.{someOf}
 use Rattle.snapshot.specs.Refusals.{firstCause}
-use Rattle.unbounded.specs.declared.Day.{Day}
+use Rattle.snapshot.specs.declared.Day.{Day}
 use Rattle.unbounded.specs.declared.Process.{Process}
 use Rattle.unbounded.specs.declared.Task.{Task}
 use Rattle.memory.specs.declared.checks.Check.{Check}

@@ -40,11 +40,11 @@ use denote.Triple.Entry.{Vals, onEntry}
 use denote.Triple.Spec.{Meets, tripleOf}
 use denote.Triple.Table.{entered, cited}
 use denote.Triple.Walked.{says, needs, Stays, stay-slice, stay-dropped, walkOf, ends-at, walked, goes-slice, goes-dropped, walk-meets}
-use Rattle.unbounded.specs.declared.Day.{Day}
+use Rattle.snapshot.specs.declared.Day.{Day}
 use Rattle.unbounded.specs.declared.Process.{Process}
 use Rattle.unbounded.specs.declared.Task.{Task}
 use Rattle.unbounded.specs.declared.Task.the-variants.{Idle, Scan, Update, Ready}
-use Rattle.memory.specs.declared.Outcome.{Outcome}
+use Rattle.snapshot.specs.declared.Outcome.{Outcome}
 use Rattle.unbounded.specs.declared.Register.{Register}
 use Rattle.memory.specs.declared.turns.Find.{Find}
 use Rattle.unbounded.specs.Figure3.{turnsOf}

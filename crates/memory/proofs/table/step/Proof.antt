@@ -43,10 +43,10 @@ use denote.Triple.Walked.{says, Stays, stay-slice, stay-dropped, walkOf, ends-at
 use Rattle.snapshot.specs.Refusals.{firstCause}
 use Rattle.snapshot.specs.Requests.{numberIn}
 use Rattle.snapshot.specs.declared.Request.{Request}
-use Rattle.unbounded.specs.declared.Day.{Day}
+use Rattle.snapshot.specs.declared.Day.{Day}
 use Rattle.unbounded.specs.declared.Process.{Process}
 use Rattle.unbounded.specs.declared.Task.{Task}
-use Rattle.memory.specs.declared.Outcome.{Outcome}
+use Rattle.snapshot.specs.declared.Outcome.{Outcome}
 use Rattle.memory.specs.declared.checks.Check.{Check}
 use Rattle.unbounded.specs.Registers.{ascending}
 use Rattle.unbounded.specs.Days.{openFor, turnOf, refusal, accept, stepped, itemCauses}

@@ -36,9 +36,9 @@ use denote.Triple.Spec.{Meets, tripleOf}
 use denote.Triple.Table.{entered, cited}
 use denote.Triple.Walked.{Stays, stay-slice, stay-dropped, walkOf, ends-at, walked, goes-slice, goes-dropped, walk-meets}
 use Rattle.snapshot.specs.declared.Request.the-variants.{Turn}
-use Rattle.unbounded.specs.declared.Day.{Day}
+use Rattle.snapshot.specs.declared.Day.{Day}
 use Rattle.unbounded.specs.declared.Process.{Process}
-use Rattle.memory.specs.declared.Outcome.{Outcome}
+use Rattle.snapshot.specs.declared.Outcome.{Outcome}
 use Rattle.memory.specs.Tables.{outcomeOf}
 use Rattle.memory.proofs.Walks.{held, Row, also, a-u32, a-day, a-request, an-outcome, three-facts, says-all, taken}
 use Rattle.memory.proofs.Calls.{calls-is}

@@ -1,7 +1,7 @@
--- `unbounded::blank` meets its contract.
+-- `snapshot::blank` meets its contract.
 use borrow.Author.Needs.{needs}
-use Rattle.unbounded.proofs.blank.Statement.{statement}
-use Rattle.unbounded.proofs.blank.Tie as tie
+use Rattle.snapshot.proofs.blank.Statement.{statement}
+use Rattle.snapshot.proofs.blank.Tie as tie
 
 returns : tie.Need-returns
 returns c = search needs
