@@ -1,12 +1,33 @@
 -- The record of a process (document 01: a desk's record), and what a call and an answer do to it.
 use Prim.Native.Nat.{ℕ}
+use mathlib.Core.Bool.{Bool, true, false}
 use mathlib.Core.List.{[]}
 use lib.ListN.{replicate}
 use Rattle.snapshot.specs.Lists.{over}
+use Rattle.snapshot.specs.Marks.{noneMoved}
+use Rattle.snapshot.specs.Tally.{Job, scan, update}
 use Rattle.unbounded.specs.declared.Process.{Process}
 use Rattle.unbounded.specs.declared.Task.{Task}
-use Rattle.unbounded.specs.declared.Task.the-variants.{Idle}
-use Rattle.unbounded.specs.Registers.{noRegister, zeroRegister, cleared, noneMoved}
+use Rattle.unbounded.specs.declared.Task.the-variants.{Idle, Scan, Update, Ready}
+use Rattle.unbounded.specs.Registers.{noRegister, zeroRegister, cleared}
+
+abbrev pub isIdle : Task → Bool
+isIdle Idle = true
+isIdle (Scan t) = false
+isIdle (Update w t) = false
+isIdle (Ready w at t) = false
+
+-- "the accepted turns it has had"
+abbrev pub turnsOf : Task → ℕ
+turnsOf Idle = 0
+turnsOf (Scan t) = t
+turnsOf (Update w t) = t
+turnsOf (Ready w at t) = t
+
+-- the task that a call sets
+abbrev pub taskOf : Job → Task
+taskOf scan = Scan 0
+taskOf (update register w) = Update w 0
 
 -- no process: what a place that a table does not have is taken for
 abbrev pub noProcess : Process

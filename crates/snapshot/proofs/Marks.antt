@@ -1,16 +1,16 @@
--- Laws of the marks: what `withMoved` and a search that marks leave marked.
+-- Laws of the marks: what `withMoved` and a search that marks leave marked, and who lends.
 use Prim.Native.Nat.{ℕ, zero, suc, _+_, _≤_, _<_}
 use native.Mathlib.Numerals.{add-one}
 use native.Mathlib.Omega.{arith}
 use native.Mathlib.Decide.{ℕ-discrete, decLt}
 use mathlib.Core.Path.{_≡_, refl, sym, ap, _∙_}
 use mathlib.Core.Logic.{_⊎_, inl, inr, by-cases, _≢_}
-use mathlib.Core.Bool.{Bool, true, false, cond, false≢true}
+use mathlib.Core.Bool.{Bool, true, false, cond, _&&_, false≢true}
 use mathlib.Core.List.{List}
 use lib.ListN.{length, getD, replicate, length-set}
 use lib.Seq.{getD-set-same, getD-set-other, set-out}
-use Rattle.unbounded.specs.Registers.{isMoved, withMoved, noneMoved}
-use Rattle.unbounded.specs.Turns.{markFrom}
+use Rattle.snapshot.specs.Marks.{isMoved, withMoved, noneMoved, lends, markFrom}
+use Rattle.snapshot.proofs.Booleans.{and-both}
 
 -- ---- one mark
 
@@ -38,6 +38,29 @@ none-moved i = nowhere 8 i
     nowhere zero i = refl
     nowhere (suc n) zero = refl
     nowhere (suc n) (suc i) = nowhere n i
+
+-- ---- who lends
+
+module _ (moved : ℕ → Bool) (ms : List Bool) (j : ℕ) where
+  pub lends-moved : lends moved ms j ≡ true → moved j ≡ true
+  unfolding lends
+  lends-moved h = and-both (moved j) (isMoved ms j) h .0
+
+  pub lends-marked : lends moved ms j ≡ true → isMoved ms j ≡ true
+  unfolding lends
+  lends-marked h = and-both (moved j) (isMoved ms j) h .1
+
+  pub still-lends-not : moved j ≡ false → lends moved ms j ≡ false
+  unfolding lends
+  still-lends-not d = rw d
+
+  pub moved-lends : moved j ≡ true → lends moved ms j ≡ isMoved ms j
+  unfolding lends
+  moved-lends d = rw d
+
+  -- who moved and does not lend is not marked yet
+  pub unmarked : moved j ≡ true → lends moved ms j ≡ false → isMoved ms j ≡ false
+  unmarked d l = sym (moved-lends d) ∙ l
 
 -- ---- a search that marks
 
