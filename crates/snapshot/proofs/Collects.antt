@@ -1,4 +1,4 @@
--- What a double collect holds of the registers' histories, and what its end tells: who did not move stood so when the first collect
+-- What a double collect stood of the registers' histories, and what its end tells: who did not move stood so when the first collect
 -- ended (Lemmas 3.1, 4.1), and who was written before it and in it lends a good page (Lemmas 3.2, 4.2).
 use Prim.Native.Nat.{ℕ, suc, _≤_, _<_}
 use native.Mathlib.Omega.{arith}
@@ -15,7 +15,7 @@ module _ (T : Trace) where
     pub instant : ℕ
     pub from : low ≤ instant
     pub before : instant < high
-    pub same : got ≡ T .holds j instant
+    pub same : got ≡ T .stood j instant
 
   pub held-later : {got : T .Register} {j low high : ℕ} (high′ : ℕ) → high ≤ high′ → Held got j low high → Held got j low high′
   held-later high′ l h =
@@ -46,28 +46,28 @@ module _ (T : Trace) where
         (omega arith, omega arith)
 
     -- nobody was written between the two reads
-    pub collect-clean : 0 < n → ((j : ℕ) (l : j < n) → T .count j (C .firsts j l .instant) ≡ T .count j (C .seconds j l .instant)) →
+    pub collect-clean : 0 < n → ((j : ℕ) (l : j < n) → T .writes j (C .firsts j l .instant) ≡ T .writes j (C .seconds j l .instant)) →
         Good (pageIn T n) s e (each n (λ j. T .value (c j))) end
     collect-clean z still =
         let w = ended 0 z in
         record {
           late = w .0;
           early = w .1;
-          true = each-cong n (λ j. T .value (c j)) (λ j. T .value (T .holds j end)) (λ j l. ap (T .value) (stood j l));
+          true = each-cong n (λ j. T .value (c j)) (λ j. T .value (T .stood j end)) (λ j l. ap (T .value) (still-stood j l));
         }
       where
-        stood : (j : ℕ) → j < n → c j ≡ T .holds j end
-        stood j l =
+        still-stood : (j : ℕ) → j < n → c j ≡ T .stood j end
+        still-stood j l =
             let f = C .firsts j l in
             let g = C .seconds j l in
             let f2 = f .before in
             let g2 = g .before in
             g .same
-            ∙ sym (between (T .holds j) (T .count j) e (L j l .counted) (f .instant) end (g .instant)
+            ∙ sym (between (T .stood j) (T .writes j) e (L j l .counted) (f .instant) end (g .instant)
             (omega arith) (g .from) (omega arith) (still j l))
 
     -- j was written since the scan began, and again since this double collect did
-    pub collect-lent : (j : ℕ) (l : j < n) → T .count j s < T .count j b → T .count j b < T .count j (C .seconds j l .instant) →
+    pub collect-lent : (j : ℕ) (l : j < n) → T .writes j s < T .writes j b → T .writes j b < T .writes j (C .seconds j l .instant) →
         Good (pageIn T n) s e (T .view (c j)) (T .at (c j))
     collect-lent j l k d =
         let g = C .seconds j l in
@@ -75,11 +75,11 @@ module _ (T : Trace) where
         let g2 = g .before in
         let w = ended j l .0 in
         subst (λ r. Good (pageIn T n) s e (T .view r) (T .at r)) (sym (g .same))
-        (borrowed (pageIn T n) (λ t. T .at (T .holds j t)) (λ t. T .view (T .holds j t)) (λ t. suc (T .count j t)) (T .count j) (T .Made j)
+        (borrowed (pageIn T n) (λ t. T .at (T .stood j t)) (λ t. T .view (T .stood j t)) (λ t. suc (T .writes j t)) (T .writes j) (T .Made j)
         e (L j l .viewed) s (g .instant) (omega arith) (omega arith) (omega arith))
 
     -- who was written since this double collect began was written since the scan did, as it stands now
-    pub collect-moved : (j : ℕ) (l : j < n) → T .count j b < T .count j (C .seconds j l .instant) → T .count j s < T .count j e
+    pub collect-moved : (j : ℕ) (l : j < n) → T .writes j b < T .writes j (C .seconds j l .instant) → T .writes j s < T .writes j e
     collect-moved j l d =
         let g = C .seconds j l in
         let g1 = g .from in

@@ -1,4 +1,4 @@
--- The end of a double collect: what its verdict tells, and what it leaves over the registers' histories.
+-- The end of a double collect: what its verdict tells, and what it leaves failed the registers' histories.
 use Prim.Native.Nat.{ℕ, suc, _+_, _≤_, _<_}
 use native.Mathlib.Omega.{arith}
 use mathlib.Core.Path.{_≡_, refl}
@@ -58,21 +58,21 @@ module _ (n : ℕ) (moved lends : ℕ → Bool) where
   unfolding verdict
   verdict-again q l = rw (ne-eqb (firstBelow n moved) n q, le-ltb (firstBelow n lends) n l)
 
--- ---- over the registers' histories
+-- ---- failed the registers' histories
 
-module _ (T : Trace) (n k : ℕ) {i s over pos begun t e end : ℕ} (ms : List Bool) {a c : ℕ → T .Register} (il : i < n)
-    (L : (j : ℕ) → j < n → History T n j e) (S : Attempts n k (T .count) i s (isMoved ms) over pos begun t e)
+module _ (T : Trace) (n k : ℕ) {i s failed pos begun t e end : ℕ} (ms : List Bool) {a c : ℕ → T .Register} (il : i < n)
+    (L : (j : ℕ) → j < n → History T n j e) (S : Attempts n k (T .writes) i s (isMoved ms) failed pos begun t e)
     (C : Collected T n begun e end a c) (moved : ℕ → Bool) where
   -- what the end of a double collect leaves by its verdict: a good page, or the next attempt
   abbrev pub Ended : Verdict → Type 0
   Ended clean = Good (pageIn T n) s e (each n (λ j. T .value (c j))) end
   Ended (lent j) = Good (pageIn T n) s e (T .view (c j)) (T .at (c j))
-  Ended again = Attempts n k (T .count) i s (isMoved (markFrom moved n 0 ms)) (suc over) 0 (suc e) (t + 1) (suc e)
+  Ended again = Attempts n k (T .writes) i s (isMoved (markFrom moved n 0 ms)) (suc failed) 0 (suc e) (t + 1) (suc e)
 
   -- it ends so where who did not move was not written between the two reads, and who moved was written since the double collect began
-  pub double-collect-ends : n ≤ length ms → pos + 1 ≡ k → ((j : ℕ) → j < n → T .count j (suc e) ≡ T .count j e) →
-      ((j : ℕ) (l : j < n) → moved j ≡ false → T .count j (C .firsts j l .instant) ≡ T .count j (C .seconds j l .instant)) →
-      ((j : ℕ) (l : j < n) → moved j ≡ true → T .count j begun < T .count j (C .seconds j l .instant)) →
+  pub double-collect-ends : n ≤ length ms → pos + 1 ≡ k → ((j : ℕ) → j < n → T .writes j (suc e) ≡ T .writes j e) →
+      ((j : ℕ) (l : j < n) → moved j ≡ false → T .writes j (C .firsts j l .instant) ≡ T .writes j (C .seconds j l .instant)) →
+      ((j : ℕ) (l : j < n) → moved j ≡ true → T .writes j begun < T .writes j (C .seconds j l .instant)) →
       Ended (verdict n moved (lends moved ms))
   double-collect-ends lm last quiet still stirred = go (verdict-ends n moved (lends moved ms))
     where
@@ -81,7 +81,7 @@ module _ (T : Trace) (n k : ℕ) {i s over pos begun t e end : ℕ} (ms : List B
       go (lender j l h first) =
           collect-lent T n L C (S .since) j l (S .moved j l (lends-marked moved ms j h)) (stirred j l (lends-moved moved ms j h))
       go (goes-on j l d h) =
-          attempts-next n k (T .count) S il (λ u w. L u w .counted .rises begun e (S .until) (omega arith))
+          attempts-next n k (T .writes) S il (λ u w. L u w .counted .rises begun e (S .until) (omega arith))
           (isMoved (markFrom moved n 0 ms)) moved last quiet (λ u w d. collect-moved T n L C (S .since) u w (stirred u w d))
           (marks-only moved n 0 ms) (λ u w. marks-keep moved n 0 ms u) j l
           (unmarked moved ms j d (h j l)) (marks-set moved n 0 ms j (omega arith) (omega arith) (omega arith) d)

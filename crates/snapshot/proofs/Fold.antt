@@ -64,13 +64,13 @@ module _ (M : Method) (O : Owed M) (H : ℕ → M .State) where
     pub instants : length (t .instants) ≡ suc (t .event)
 
   agree-patient : (t : Tally (M .Value)) → Agree t → Patient (M .most) t
-  agree-patient t a i c h = by-cases (decLt i (M .processes)) inside outside
+  agree-patient t a i c h = by-cases (decLt i (M .processes)) within beyond
     where
-      inside : i < M .processes → c .turns < M .most (c .job)
-      inside l = O .patient H (t .event) i c l (a .past) (subst (λ o. O .Tied H (t .event) i o) h (a .tied i l))
+      within : i < M .processes → c .turns < M .most (c .job)
+      within l = O .patient H (t .event) i c l (a .past) (subst (λ o. O .Tied H (t .event) i o) h (a .tied i l))
 
-      outside : ¬ (i < M .processes) → c .turns < M .most (c .job)
-      outside l =
+      beyond : ¬ (i < M .processes) → c .turns < M .most (c .job)
+      beyond l =
           let long : length (t .calls) ≤ i = omega (arith, a .processes) in
           absurd (Option·none-ne-some c (sym (List·getD-eq-default (t .calls) none long) ∙ h))
 

@@ -109,6 +109,7 @@ module _ (M : Machine) where
   abbrev pub turnCauses : State (M .Process) → ℕ → List ℕ → List Cause
   turnCauses s d page = causes s d (ltb (length page) (M .pageLength (s .day .count))) (M .isIdle (processOf s d), Idle)
 
+  -- "Only the number is returned": the first cause that holds
   unfoldable pub refusal : State (M .Process) → Item → Option Refusal
   refusal s (openFor k) = firstCause (openingCauses s k)
   refusal s (updateCall d w) = firstCause (callCauses s d)
@@ -126,6 +127,7 @@ module _ (M : Machine) where
   advance s d p =
       record { day = record { count = s .day .count; event = s .day .event + 1 }; table = set (s .table) (d - 1) p }
 
+  -- a call of process d: its record, with the task of the job
   unfoldable pub calledBy : State (M .Process) → ℕ → Job → State (M .Process)
   calledBy s d j = advance s d (M .called (s .day .count) j (processOf s d))
 
@@ -141,6 +143,7 @@ module _ (M : Machine) where
       let p = processOf s d in
       M .turned n (d - 1) (s .day .event + 1) (readFrom (s .table) (M .reads n p)) page p
 
+  -- the state that an accepted item leaves, its answer, and its page list: "all words on any other turn, remain"
   unfoldable pub accept : State (M .Process) → Item → Result (State (M .Process))
   accept s (openFor k) = record { state = openedBy s k; answer = Opened; page = [] }
   accept s (updateCall d w) = record { state = calledBy s d (update d w); answer = Called; page = [] }
@@ -151,6 +154,7 @@ module _ (M : Machine) where
 
   -- ---- the machine as a method
 
+  -- for n processes; a register for each, and a page list shows what its first places do
   abbrev pub method : ℕ → Method
   method n =
       record {

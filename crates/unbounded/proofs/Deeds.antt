@@ -28,7 +28,7 @@ use Rattle.unbounded.specs.Days.{figure3}
 use Rattle.unbounded.proofs.Places.{trimmed, trimmed-laid}
 use Rattle.unbounded.proofs.Scans.{Permutes}
 use Rattle.unbounded.proofs.Reading.{place-below, sized-begin, sized-read}
-use Rattle.unbounded.proofs.Scanning.{Goes, scanning-starts, scanning-reads, scanning-patient, position-is}
+use Rattle.unbounded.proofs.Scanning.{Scanned, scanning-starts, scanning-reads, scanning-patient, position-is}
 use Rattle.unbounded.proofs.Ties.{registerAt, Laws, Scans, Keeps, Tie, Ties, registers-stay, laws-stay, laws-write}
 
 -- process i makes event e + 1
@@ -38,20 +38,20 @@ module _ (n : ℕ) (o : Order) (H : ℕ → State Process) (z : 0 < n) (eight : 
 
   -- ---- a call only sets the task
 
-  call-tie : (j : Job) → Owns i j → Tie n o H (suc e) i (begin n (taskOf j) before) (taskOf j) (some (opens (suc e) j))
+  call-tie : (j : Job) → Owns i j → Tie n o H (suc e) i (begin n (taskOf j 0) before) (taskOf j 0) (some (opens (suc e) j))
   unfolding begin
   call-tie scan own = (refl, refl, scanning-starts n o (registerAt n o H) i (suc e) (cleared n (before .first)) (cleared n (before .second)) 0 z)
   call-tie (update register w) own =
       ((register, own, refl), refl, scanning-starts n o (registerAt n o H) i (suc e) (cleared n (before .first)) (cleared n (before .second)) 0 z)
 
   pub call-works : (j : Job) → Owns i j → Ties n o H e i before none →
-      let p = begin n (taskOf j) before in
+      let p = begin n (taskOf j 0) before in
       Event (figure3 o) n H e i p → Laws n o H (suc e) × (value (p .register) ≡ value (before .register)) × Ties n o H (suc e) i p (some (opens (suc e) j))
   unfolding begin
   call-works j own T E = (
-    laws-stay n o H e i (begin n (taskOf j) before) L E refl,
+    laws-stay n o H e i (begin n (taskOf j 0) before) L E refl,
     refl,
-    record { sized = sized-begin n (taskOf j) before eight (T .sized); tie = call-tie j own },
+    record { sized = sized-begin n (taskOf j 0) before eight (T .sized); tie = call-tie j own },
   )
 
   -- ---- turns
@@ -83,19 +83,19 @@ module _ (n : ℕ) (o : Order) (H : ℕ → State Process) (z : 0 < n) (eight : 
       finds = foundBy o n (suc e) (position n t) read-now before
 
       -- what a read of register r at position pos leaves, if it finds no page
-      abbrev GoesOn : (pos : ℕ) → Register → Option (Found ℕ) → Type 0
-      GoesOn pos r =
+      abbrev ScannedAt : (pos : ℕ) → Register → Option (Found ℕ) → Type 0
+      ScannedAt pos r =
           let a = firstAfter n pos r (before .first) in
           let b = secondAfter n pos r (before .second) in
-          Goes n o (registerAt n o H) S il L a b (endAfter n pos (suc e) (before .«first_end»))
+          Scanned n o (registerAt n o H) S il L a b (endAfter n pos (suc e) (before .«first_end»))
           (marksAfter o n a b (before .moved) (decision o n pos a b (before .moved)))
 
-      goes : ((j : ℕ) → registerAt n o H j (suc e) ≡ registerAt n o H j e) → GoesOn (position n t) read-now finds
+      scanned-now : ((j : ℕ) → registerAt n o H j (suc e) ≡ registerAt n o H j e) → ScannedAt (position n t) read-now finds
       unfolding foundBy
-      goes quiet =
-          subst (λ pos. GoesOn pos (read-at pos) (foundBy o n (suc e) pos (read-at pos) before)) (sym (position-is n o (registerAt n o H) S))
+      scanned-now quiet =
+          subst (λ pos. ScannedAt pos (read-at pos) (foundBy o n (suc e) pos (read-at pos) before)) (sym (position-is n o (registerAt n o H) S))
           (scanning-reads n o (registerAt n o H) S il L P (omega (arith, T .sized .marks)) (λ j. ap (λ r. r .seq) (quiet j)) (read-at (S .pos))
-          (view-full (o .register (placeAt n (S .pos))) (P .register-below (placeAt n (S .pos)) (place-below n (S .pos) (S .attempts .low))))
+          (view-full (o .register (placeAt n (S .pos))) (P .register-within (placeAt n (S .pos)) (place-below n (S .pos) (S .attempts .low))))
           (omega (arith, T .sized .firsts)) (omega (arith, T .sized .seconds)) refl)
 
       -- a scan's reading turn
@@ -108,7 +108,7 @@ module _ (n : ℕ) (o : Order) (H : ℕ → State Process) (z : 0 < n) (eight : 
         scan-register none = refl
         scan-register (some f) = refl
 
-        scan-found : (f : Option (Found ℕ)) → GoesOn (position n t) read-now f → Worked (scan-result f)
+        scan-found : (f : Option (Found ℕ)) → ScannedAt (position n t) read-now f → Worked (scan-result f)
         unfolding begin afterRead
         scan-found none s E = (
           laws-stay n o H e i (scan-result none .state) L E refl,
@@ -126,7 +126,7 @@ module _ (n : ℕ) (o : Order) (H : ℕ → State Process) (z : 0 < n) (eight : 
         )
 
         scan-turn-works : Worked (scan-result finds)
-        scan-turn-works E = scan-found finds (goes (registers-stay n o H e i (scan-result finds .state) L E (scan-register finds))) E
+        scan-turn-works E = scan-found finds (scanned-now (registers-stay n o H e i (scan-result finds .state) L E (scan-register finds))) E
 
       -- an update's reading turn
       module _ (page : List ℕ) (w : ℕ) (job : Updates i w (c .job)) (count : c .turns ≡ t) where
@@ -138,7 +138,7 @@ module _ (n : ℕ) (o : Order) (H : ℕ → State Process) (z : 0 < n) (eight : 
         update-register none = refl
         update-register (some f) = refl
 
-        update-found : (f : Option (Found ℕ)) → GoesOn (position n t) read-now f → Worked (update-result f)
+        update-found : (f : Option (Found ℕ)) → ScannedAt (position n t) read-now f → Worked (update-result f)
         unfolding afterRead
         update-found none s E = (
           laws-stay n o H e i (update-result none .state) L E refl,
@@ -168,7 +168,7 @@ module _ (n : ℕ) (o : Order) (H : ℕ → State Process) (z : 0 < n) (eight : 
             )
 
         update-turn-works : Worked (update-result finds)
-        update-turn-works E = update-found finds (goes (registers-stay n o H e i (update-result finds .state) L E (update-register finds))) E
+        update-turn-works E = update-found finds (scanned-now (registers-stay n o H e i (update-result finds .state) L E (update-register finds))) E
 
     -- the writing turn
     module _ (page : List ℕ) (w at t : ℕ) (job : Updates i w (c .job)) (count : c .turns ≡ t) (K : Keeps n o H e i (c .number) t before at) where

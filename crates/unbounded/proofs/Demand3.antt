@@ -98,8 +98,8 @@ demand3-ordered n o P z eight items = machine.demand3 (figure3 o) n (λ H. works
 ascending-permutes : (n : ℕ) → Permutes n ascending
 ascending-permutes n =
     record {
-      register-below = λ p l. l;
-      place-below = λ j l. l;
+      register-within = λ p l. l;
+      place-within = λ j l. l;
       register-place = λ j l. refl;
       place-register = λ p l. refl;
     }

@@ -15,6 +15,7 @@ use lib.Seq.{length-take-le}
 use lib.Dec.{eqb}
 use borrow.Author.Tests.{eq-eqb, ne-eqb}
 use Rattle.snapshot.specs.Lists.{over, each, everyFrom}
+use Rattle.snapshot.specs.Tally.{Job, scan, update}
 use Rattle.snapshot.specs.Marks.{isMoved, withMoved, lends, markFrom, passed, Found}
 use Rattle.snapshot.specs.Demand.{Result}
 use Rattle.snapshot.specs.declared.Answer.the-variants.{Read, Page, Written}
@@ -28,9 +29,9 @@ use Rattle.unbounded.specs.declared.Process.{Process}
 use Rattle.unbounded.specs.declared.Task.{Task}
 use Rattle.unbounded.specs.declared.Task.the-variants.{Scan, Update, Ready}
 use Rattle.unbounded.specs.Registers.{noRegister, zeroRegister, value, viewed, Order, collectedAt, pageOf, differs, laid, readInto, cleared}
-use Rattle.unbounded.specs.Processes.{turnsOf, begin}
+use Rattle.unbounded.specs.Processes.{turnsOf, taskOf, begin}
 use Rattle.unbounded.specs.Turns.{position, placeAt, reads, firstAfter, secondAfter, endAfter, marksAfter, found, afterRead, foundBy, scanTurn, updateTurn, written, turnedBy, turned}
-use Rattle.unbounded.specs.Figure3.{Triple, Array, assigned, Variables, Procedure, write, return, collect, search, whileTrue, scan, update, zeroTriple, triple, mark, Remembers, After, Does}
+use Rattle.unbounded.specs.Figure3.{Triple, Array, assigned, Variables, Procedure, write, return, collect, search, whileTrue, scanProcedure, updateProcedure, zeroTriple, triple, mark, Remembers, After, Does}
 use Rattle.unbounded.proofs.Places.{page-of-long, trimmed, read-into-same, read-into-other, trimmed-laid}
 use Rattle.unbounded.proofs.Moved.{differs-false, differs-true}
 use Rattle.unbounded.proofs.Reading.{place-first, place-second, first-reads, first-waits, second-reads, second-waits, decision-waits, decision-falls, Sized, sized-begin, sized-read}
@@ -184,54 +185,45 @@ module _ (n : ℕ) (o : Order) (a b : List Register) (x y : Array Triple)
 
 -- ---- turns
 
--- a task that reads: a scan, or an update of a word
-data Kind : Type 0 where
-  page : Kind
-  entry : ℕ → Kind
+turns-of : (K : Job) (t : ℕ) → turnsOf (taskOf K t) ≡ t
+turns-of scan t = refl
+turns-of (update register w) t = refl
 
-abbrev taskAt : Kind → ℕ → Task
-taskAt page t = Scan t
-taskAt (entry w) t = Update w t
-
-turns-of : (K : Kind) (t : ℕ) → turnsOf (taskAt K t) ≡ t
-turns-of page t = refl
-turns-of (entry w) t = refl
-
-reads-of : (o : Order) (n : ℕ) (K : Kind) (t pos place : ℕ) → position n t ≡ pos → placeAt n pos ≡ place → reads o n (taskAt K t) ≡ some (o .register place)
-reads-of o n page t pos place q r = ap {B = Option ℕ} (λ k. some (o .register k)) (ap (placeAt n) q ∙ r)
-reads-of o n (entry w) t pos place q r = ap {B = Option ℕ} (λ k. some (o .register k)) (ap (placeAt n) q ∙ r)
+reads-of : (o : Order) (n : ℕ) (K : Job) (t pos place : ℕ) → position n t ≡ pos → placeAt n pos ≡ place → reads o n (taskOf K t) ≡ some (o .register place)
+reads-of o n scan t pos place q r = ap {B = Option ℕ} (λ k. some (o .register k)) (ap (placeAt n) q ∙ r)
+reads-of o n (update register w) t pos place q r = ap {B = Option ℕ} (λ k. some (o .register k)) (ap (placeAt n) q ∙ r)
 
 -- what the procedure does with the words that its scan returns, by a process whose register's seq is s
-abbrev finishOf : Kind → ℕ → ℕ → List ℕ → Procedure
-finishOf page s from words = return from words
-finishOf (entry w) s from words = write (record { content = w; seq = s + 1; view = words })
+abbrev finishOf : Job → ℕ → ℕ → List ℕ → Procedure
+finishOf scan s from words = return from words
+finishOf (update register w) s from words = write (record { content = w; seq = s + 1; view = words })
 
 module _ (n : ℕ) (o : Order) (now : ℕ) (r : Register) (pg : List ℕ) (p : Process) where
-  abbrev readTurn : ℕ → Option (Found ℕ) → Kind → Result Process
-  readTurn t f page = scanTurn o n now r pg p t f
-  readTurn t f (entry w) = updateTurn o n now r pg p w t f
+  abbrev readTurn : ℕ → Option (Found ℕ) → Job → Result Process
+  readTurn t f scan = scanTurn o n now r pg p t f
+  readTurn t f (update register w) = updateTurn o n now r pg p w t f
 
-  turned-by : (t : ℕ) (K : Kind) → turnedBy o n now r pg p (taskAt K t) ≡ readTurn t (foundBy o n now (position n t) r p) K
-  turned-by t page = refl
-  turned-by t (entry w) = refl
+  turned-by : (t : ℕ) (K : Job) → turnedBy o n now r pg p (taskOf K t) ≡ readTurn t (foundBy o n now (position n t) r p) K
+  turned-by t scan = refl
+  turned-by t (update register w) = refl
 
-  turned-reads : (K : Kind) (t pos : ℕ) (f : Option (Found ℕ)) → p .task ≡ taskAt K t → position n t ≡ pos → foundBy o n now pos r p ≡ f →
+  turned-reads : (K : Job) (t pos : ℕ) (f : Option (Found ℕ)) → p .task ≡ taskOf K t → position n t ≡ pos → foundBy o n now pos r p ≡ f →
       turned o n now r pg p ≡ readTurn t f K
   unfolding turned
   turned-reads K t pos f task at q =
       ap (λ k. turnedBy o n now r pg p k) task ∙ turned-by t K ∙ ap (λ g. readTurn t g K) (ap (λ k. foundBy o n now k r p) at ∙ q)
 
   -- a turn that finds nothing goes on
-  abbrev onward : (t pos : ℕ) → Kind → Result Process
-  onward t pos K = record { state = afterRead o n now pos r p (taskAt K (t + 1)) (p .view); answer = Read; page = pg }
+  abbrev onward : (t pos : ℕ) → Job → Result Process
+  onward t pos K = record { state = afterRead o n now pos r p (taskOf K (t + 1)) (p .view); answer = Read; page = pg }
 
-  turned-onward : (K : Kind) (t pos : ℕ) → p .task ≡ taskAt K t → position n t ≡ pos → foundBy o n now pos r p ≡ none →
+  turned-onward : (K : Job) (t pos : ℕ) → p .task ≡ taskOf K t → position n t ≡ pos → foundBy o n now pos r p ≡ none →
       turned o n now r pg p ≡ onward t pos K
   turned-onward K t pos task at q = turned-reads K t pos none task at q ∙ by K
     where
-      by : (K : Kind) → readTurn t none K ≡ onward t pos K
-      by page = ap (λ k. onward t k page) at
-      by (entry w) = ap (λ k. onward t k (entry w)) at
+      by : (K : Job) → readTurn t none K ≡ onward t pos K
+      by scan = ap (λ k. onward t k scan) at
+      by (update register w) = ap (λ k. onward t k (update register w)) at
 
 -- ---- a turn that finds a page
 
@@ -247,11 +239,11 @@ triple-written n w at s p ws q v l =
 module _ (n : ℕ) (o : Order) (now : ℕ) (r : Register) (pg : List ℕ) (p : Process) (t s : ℕ) (f : Found ℕ) (own : p .register .seq ≡ s)
     (full : length (f .words) ≡ n) where
   -- the procedure returns to its caller, or goes on to its write
-  found-after : (K : Kind) → let q = finishOf K s (f .lender) (f .words) in
+  found-after : (K : Job) → let q = finishOf K s (f .lender) (f .words) in
       After o n (Does o n q (suc t)) (suc t) p pg (readTurn n o now r pg p t (some f) K) q
   unfolding Does begin afterRead turned
-  found-after page = ((f .instant, ap (Page (f .lender) (f .instant)) (add-one t)), refl, refl)
-  found-after (entry w) = (
+  found-after scan = ((f .instant, ap (Page (f .lender) (f .instant)) (add-one t)), refl, refl)
+  found-after (update register w) = (
     refl,
     refl,
     refl,
@@ -282,7 +274,7 @@ after-while o zero z F k moved x y t p pg p′ q does = absurd (omega arith)
 after-while o (suc n) z F zero moved x y t p pg p′ q does = tt
 after-while o (suc n) z F (suc k) moved x y t p pg p′ q does = (refl, refl, q, does)
 
-module _ (n : ℕ) (o : Order) (P : Permutes n o) (z : 0 < n) (eight : n ≤ 8) (K : Kind) (s : ℕ) where
+module _ (n : ℕ) (o : Order) (P : Permutes n o) (z : 0 < n) (eight : n ≤ 8) (K : Job) (s : ℕ) where
   -- lines 4 to 10 of a round after which k more may come
   abbrev closing : ℕ → Array ℕ → Array Triple → Array Triple → Procedure
   closing k moved x y =
@@ -290,13 +282,13 @@ module _ (n : ℕ) (o : Order) (P : Permutes n o) (z : 0 < n) (eight : n ≤ 8) 
       (finishOf K s 0 (each n (λ j. y j .content)))
       (search n 0 x y moved (λ mv. whileTrue o n (finishOf K s) k mv x y) (finishOf K s))
 
-  -- process p after t turns holds the variables v
+  -- process p after t turns remembers the variables v
   record At (p : Process) (t : ℕ) (v : Variables) : Type 0 where
     sized : Sized p
-    holds : Remembers o n v p
+    remembers : Remembers o n v p
     -- the views in the second collect have their n words
     wide : (j : ℕ) → j < n → length (v .b j .view) ≡ n
-    task : p .task ≡ taskAt K t
+    task : p .task ≡ taskOf K t
     seq : p .register .seq ≡ s
 
   position-of : (m pos t : ℕ) → t ≡ m * (2 * n) + pos → pos < 2 * n → position n t ≡ pos
@@ -321,40 +313,40 @@ module _ (n : ℕ) (o : Order) (P : Permutes n o) (z : 0 < n) (eight : n ≤ 8) 
     at-onward : (pos : ℕ) (x′ y′ : Array Triple) → pos + 1 ≢ 2 * n →
         Stands n o P x′ (firstAfter n pos r (p .first)) → Stands n o P y′ (secondAfter n pos r (p .second)) →
         ((j : ℕ) → j < n → length (y′ j .view) ≡ n) →
-        At (afterRead o n now pos r p (taskAt K (t + 1)) (p .view)) (suc t) (record { moved = moved; a = x′; b = y′ })
+        At (afterRead o n now pos r p (taskOf K (t + 1)) (p .view)) (suc t) (record { moved = moved; a = x′; b = y′ })
     unfolding afterRead marksAfter
     at-onward pos x′ y′ h hx hy wide =
         let a = firstAfter n pos r (p .first) in
         let c = secondAfter n pos r (p .second) in
         record {
-          sized = sized-read o n now pos r p (taskAt K (t + 1)) (p .view) (A .sized);
-          holds =
+          sized = sized-read o n now pos r p (taskOf K (t + 1)) (p .view) (A .sized);
+          remembers =
               record {
-                moved = λ j l. A .holds .moved j l
+                moved = λ j l. A .remembers .moved j l
                     ∙ sym (ap (λ v. mark (isMoved (markFrom (differs o a c) (passed n v) 0 (p .moved)) j)) (decision-waits n o pos a c (p .moved) h));
                 a = hx;
                 b = hy;
               };
           wide = wide;
-          task = ap (taskAt K) (add-one t);
+          task = ap (taskOf K) (add-one t);
           seq = A .seq;
         }
 
-    at-first : (q : ℕ) → q < n → At (afterRead o n now q r p (taskAt K (t + 1)) (p .view)) (suc t) (record { moved = moved; a = assigned x (o .register q) (triple n r); b = y })
+    at-first : (q : ℕ) → q < n → At (afterRead o n now q r p (taskOf K (t + 1)) (p .view)) (suc t) (record { moved = moved; a = assigned x (o .register q) (triple n r); b = y })
     at-first q l =
         at-onward q (assigned x (o .register q) (triple n r)) y (λ w. omega arith)
         (subst (λ rs. Stands n o P (assigned x (o .register q) (triple n r)) rs) (sym (first-reads n r q (p .first) l))
-        (reads-stand n o P x (p .first) r q l (omega (arith, A .sized .firsts)) (view-full r full) (A .holds .a)))
-        (subst (λ rs. Stands n o P y rs) (sym (second-waits n r q (p .second) l)) (A .holds .b))
+        (reads-stand n o P x (p .first) r q l (omega (arith, A .sized .firsts)) (view-full r full) (A .remembers .a)))
+        (subst (λ rs. Stands n o P y rs) (sym (second-waits n r q (p .second) l)) (A .remembers .b))
         (A .wide)
 
     stands-second : (q : ℕ) → q < n → Stands n o P (assigned y (o .register q) (triple n r)) (secondAfter n (n + q) r (p .second))
     stands-second q l =
         subst (λ rs. Stands n o P (assigned y (o .register q) (triple n r)) rs) (sym (second-reads n r q (p .second)))
-        (reads-stand n o P y (p .second) r q l (omega (arith, A .sized .seconds)) (view-full r full) (A .holds .b))
+        (reads-stand n o P y (p .second) r q l (omega (arith, A .sized .seconds)) (view-full r full) (A .remembers .b))
 
     stands-first : (q : ℕ) → Stands n o P x (firstAfter n (n + q) r (p .first))
-    stands-first q = subst (λ rs. Stands n o P x rs) (sym (first-waits n r (n + q) (p .first) (omega arith))) (A .holds .a)
+    stands-first q = subst (λ rs. Stands n o P x rs) (sym (first-waits n r (n + q) (p .first) (omega arith))) (A .remembers .a)
 
     wide-second : (q j : ℕ) → j < n → length (assigned y (o .register q) (triple n r) j .view) ≡ n
     wide-second q j l =
@@ -362,18 +354,18 @@ module _ (n : ℕ) (o : Order) (P : Permutes n o) (z : 0 < n) (eight : n ≤ 8) 
         (λ e. ap (λ u. length (u .view)) (assigned-same y j (o .register q) (triple n r) e) ∙ view-full r full)
         (λ e. ap (λ u. length (u .view)) (assigned-other y j (o .register q) (triple n r) e) ∙ A .wide j l)
 
-    at-second : (q : ℕ) → q + 1 < n → At (afterRead o n now (n + q) r p (taskAt K (t + 1)) (p .view)) (suc t) (record { moved = moved; a = x; b = assigned y (o .register q) (triple n r) })
+    at-second : (q : ℕ) → q + 1 < n → At (afterRead o n now (n + q) r p (taskOf K (t + 1)) (p .view)) (suc t) (record { moved = moved; a = x; b = assigned y (o .register q) (triple n r) })
     at-second q l = at-onward (n + q) x (assigned y (o .register q) (triple n r)) (λ w. omega arith) (stands-first q) (stands-second q (omega arith)) (wide-second q)
 
     onwards : (pg : List ℕ) (pos : ℕ) → position n t ≡ pos → pos + 1 ≢ 2 * n →
         (k q : ℕ) (v : Array Triple → Variables) (w : Array Triple) (next : Array Triple → Procedure) →
-        Does o n (collect o (suc k) q v w next) (suc t) (afterRead o n now pos r p (taskAt K (t + 1)) (p .view)) →
+        Does o n (collect o (suc k) q v w next) (suc t) (afterRead o n now pos r p (taskOf K (t + 1)) (p .view)) →
         After o n (Does o n (collect o (suc k) q v w next) (suc t)) (suc t) p pg (turned o n now r pg p) (collect o (suc k) q v w next)
     unfolding collect
     onwards pg pos at h k q v w next does =
         subst (λ X. After o n (Does o n (collect o (suc k) q v w next) (suc t)) (suc t) p pg X (collect o (suc k) q v w next))
         (sym (turned-onward n o now r pg p K t pos (A .task) at (waits pos h)))
-        (refl, refl, register-kept o n now pos r p (taskAt K (t + 1)) (p .view), does)
+        (refl, refl, register-kept o n now pos r p (taskOf K (t + 1)) (p .view), does)
 
     -- ---- the read that ends a double collect
 
@@ -415,23 +407,23 @@ module _ (n : ℕ) (o : Order) (P : Permutes n o) (z : 0 < n) (eight : n ≤ 8) 
 
       -- no page was found, and the procedure goes on with the marks m′
       continues : (k : ℕ) (m′ : Array ℕ) → foundBy o n now (n + q) r p ≡ none → lines k ≡ whileTrue o n (finishOf K s) k m′ x y′ →
-          Does o n (whileTrue o n (finishOf K s) k m′ x y′) (suc t) (afterRead o n now (n + q) r p (taskAt K (t + 1)) (p .view)) → Ending k
+          Does o n (whileTrue o n (finishOf K s) k m′ x y′) (suc t) (afterRead o n now (n + q) r p (taskOf K (t + 1)) (p .view)) → Ending k
       unfolding Ending
       continues k m′ found-none same does =
           subst (λ Q. After o n (Does o n Q (suc t)) (suc t) p pg (turned o n now r pg p) Q) (sym same)
           (subst (λ X. After o n (Does o n (whileTrue o n (finishOf K s) k m′ x y′) (suc t)) (suc t) p pg X (whileTrue o n (finishOf K s) k m′ x y′))
           (sym (turned-onward n o now r pg p K t (n + q) (A .task) at found-none))
-          (after-while o n z (finishOf K s) k m′ x y′ (suc t) p pg (afterRead o n now (n + q) r p (taskAt K (t + 1)) (p .view)) (register-kept o n now (n + q) r p (taskAt K (t + 1)) (p .view)) does))
+          (after-while o n z (finishOf K s) k m′ x y′ (suc t) p pg (afterRead o n now (n + q) r p (taskOf K (t + 1)) (p .view)) (register-kept o n now (n + q) r p (taskOf K (t + 1)) (p .view)) does))
 
       -- the record after a double collect without a page, with the marks that the search left
       at-again : (m′ : Array ℕ) → verdict n (differs o a′ c′) (lends (differs o a′ c′) (p .moved)) ≡ again →
           ((i : ℕ) → i < n → m′ i ≡ mark (isMoved (markFrom (differs o a′ c′) n 0 (p .moved)) i)) →
-          At (afterRead o n now (n + q) r p (taskAt K (t + 1)) (p .view)) (suc t) (record { moved = m′; a = x; b = y′ })
+          At (afterRead o n now (n + q) r p (taskOf K (t + 1)) (p .view)) (suc t) (record { moved = m′; a = x; b = y′ })
       unfolding afterRead marksAfter a′ c′ y′
       at-again m′ e h =
           record {
-            sized = sized-read o n now (n + q) r p (taskAt K (t + 1)) (p .view) (A .sized);
-            holds =
+            sized = sized-read o n now (n + q) r p (taskOf K (t + 1)) (p .view) (A .sized);
+            remembers =
                 record {
                   moved = λ i l. h i l
                       ∙ sym (ap (λ v. mark (isMoved (markFrom (differs o a′ c′) (passed n v) 0 (p .moved)) i))
@@ -440,7 +432,7 @@ module _ (n : ℕ) (o : Order) (P : Permutes n o) (z : 0 < n) (eight : n ≤ 8) 
                   b = stands-second q (omega arith);
                 };
             wide = wide-second q;
-            task = ap (taskAt K) (add-one t);
+            task = ap (taskOf K) (add-one t);
             seq = A .seq;
           }
 
@@ -458,18 +450,18 @@ module _ (n : ℕ) (o : Order) (P : Permutes n o) (z : 0 < n) (eight : n ≤ 8) 
           (ap (λ b. cond b (finishOf K s 0 (each n (λ j. y′ j .content))) (search n 0 x y′ moved (λ moved. whileTrue o n (finishOf K s) k moved x y′) (finishOf K s)))
           (one-differs n o a′ c′ x y′ (stands-first q) (stands-second q (omega arith)) (finishOf K s) (λ moved. whileTrue o n (finishOf K s) k moved x y′) n 0 j (omega arith) (omega arith) l (lends-moved (differs o a′ c′) (p .moved) j h))
           ∙ search-lends n o a′ c′ x y′ (stands-first q) (stands-second q (omega arith)) (finishOf K s) (λ moved. whileTrue o n (finishOf K s) k moved x y′)
-          (p .moved) j l h first n 0 moved (omega arith) (omega arith) (λ i u w. A .holds .moved i w)
+          (p .moved) j l h first n 0 moved (omega arith) (omega arith) (λ i u w. A .remembers .moved i w)
           ∙ ap₂ (finishOf K s) (sym (add-one j)) (ap (λ u. u .view) (stands-second q (omega arith) j l)))
       ends k rest _ e (goes-on j l d h) =
           let G : Array ℕ → Procedure = λ mv. whileTrue o n (finishOf K s) k mv x y′ in
           let mk =
           search-marks n o a′ c′ x y′ (stands-first q) (stands-second q (omega arith)) (finishOf K s) G n 0 (p .moved) moved (omega arith)
-          (omega (arith, A .sized .marks)) (A .holds .moved) (λ i u w dd. unmarked (differs o a′ c′) (p .moved) i dd (h i w)) in
+          (omega (arith, A .sized .marks)) (A .remembers .moved) (λ i u w dd. unmarked (differs o a′ c′) (p .moved) i dd (h i w)) in
           continues k (mk .0) (falls again e)
           (ap (λ b. cond b (finishOf K s 0 (each n (λ j. y′ j .content))) (search n 0 x y′ moved G (finishOf K s)))
           (one-differs n o a′ c′ x y′ (stands-first q) (stands-second q (omega arith)) (finishOf K s) G n 0 j (omega arith) (omega arith) l d)
           ∙ mk .1)
-          (rest (mk .0) (afterRead o n now (n + q) r p (taskAt K (t + 1)) (p .view)) (at-again (mk .0) e (mk .2)))
+          (rest (mk .0) (afterRead o n now (n + q) r p (taskOf K (t + 1)) (p .view)) (at-again (mk .0) e (mk .2)))
 
       ending : (k : ℕ) → ((moved : Array ℕ) (p : Process) → At p (suc t) (record { moved = moved; a = x; b = y′ }) → Does o n (whileTrue o n (finishOf K s) k moved x y′) (suc t) p) → Ending k
       ending k rest =
@@ -485,20 +477,20 @@ module _ (n : ℕ) (o : Order) (P : Permutes n o) (z : 0 < n) (eight : n ≤ 8) 
       Does o n (collect o (suc k) q (λ b. record { moved = moved; a = x; b = b }) y (closing f moved x)) t p
   unfolding Does collect Ending lines y′
   second-does f m zero q l rest t moved x y p c A = (
-    A .holds,
+    A .remembers,
     ap turnsOf (A .task) ∙ turns-of K t,
     ap (reads o n) (A .task) ∙ reads-of o n K t (n + q) q (position-of m (n + q) t c (omega arith)) (place-second n q),
     (λ now r pg full. ending now r full p t moved x y A pg q m (omega arith) c f
         (λ mv p′ A′. rest (suc t) mv x (assigned y (o .register q) (triple n r)) p′ (omega arith) A′)),
   )
   second-does f m (suc k) q l rest t moved x y p c A = (
-    A .holds,
+    A .remembers,
     ap turnsOf (A .task) ∙ turns-of K t,
     ap (reads o n) (A .task) ∙ reads-of o n K t (n + q) q (position-of m (n + q) t c (omega arith)) (place-second n q),
     (λ now r pg full. onwards now r full p t moved x y A pg (n + q) (position-of m (n + q) t c (omega arith)) (λ w. omega arith)
         k (suc q) (λ b. record { moved = moved; a = x; b = b }) (assigned y (o .register q) (triple n r)) (closing f moved x)
         (second-does f m k (suc q) (omega arith) rest (suc t) moved x (assigned y (o .register q) (triple n r))
-        (afterRead o n now (n + q) r p (taskAt K (t + 1)) (p .view)) (omega arith) (at-second now r full p t moved x y A q (omega arith)))),
+        (afterRead o n now (n + q) r p (taskOf K (t + 1)) (p .view)) (omega arith) (at-second now r full p t moved x y A q (omega arith)))),
   )
 
   -- the first collect, and then the second
@@ -512,7 +504,7 @@ module _ (n : ℕ) (o : Order) (P : Permutes n o) (z : 0 < n) (eight : n ≤ 8) 
       Does o n (collect o (suc k) q (λ a. record { moved = moved; a = a; b = y }) x (after-first f moved y)) t p
   unfolding Does collect
   first-does f m zero q l rest t moved x y p c A = (
-    A .holds,
+    A .remembers,
     ap turnsOf (A .task) ∙ turns-of K t,
     ap (reads o n) (A .task) ∙ reads-of o n K t q q (position-of m q t c (omega arith)) (place-first n q (omega arith)),
     (λ now r pg full.
@@ -521,20 +513,20 @@ module _ (n : ℕ) (o : Order) (P : Permutes n o) (z : 0 < n) (eight : n ≤ 8) 
         subst (λ k. After o n (Does o n (collect o k 0 hold y (closing f moved x′)) (suc t)) (suc t) p pg (turned o n now r pg p) (collect o k 0 hold y (closing f moved x′)))
         (suc-is l)
         (onwards now r full p t moved x y A pg q (position-of m q t c (omega arith)) (λ w. omega arith) q 0 hold y (closing f moved x′)
-        (second-does f m q 0 (omega arith) rest (suc t) moved x′ y (afterRead o n now q r p (taskAt K (t + 1)) (p .view)) (omega arith)
+        (second-does f m q 0 (omega arith) rest (suc t) moved x′ y (afterRead o n now q r p (taskOf K (t + 1)) (p .view)) (omega arith)
         (at-first now r full p t moved x y A q (omega arith))))),
   )
     where
       suc-is : suc zero + q ≡ n → suc q ≡ n
       suc-is h = omega arith
   first-does f m (suc k) q l rest t moved x y p c A = (
-    A .holds,
+    A .remembers,
     ap turnsOf (A .task) ∙ turns-of K t,
     ap (reads o n) (A .task) ∙ reads-of o n K t q q (position-of m q t c (omega arith)) (place-first n q (omega arith)),
     (λ now r pg full. onwards now r full p t moved x y A pg q (position-of m q t c (omega arith)) (λ w. omega arith)
         k (suc q) (λ a. record { moved = moved; a = a; b = y }) (assigned x (o .register q) (triple n r)) (after-first f moved y)
         (first-does f m k (suc q) (omega arith) rest (suc t) moved (assigned x (o .register q) (triple n r)) y
-        (afterRead o n now q r p (taskAt K (t + 1)) (p .view)) (omega arith) (at-first now r full p t moved x y A q (omega arith)))),
+        (afterRead o n now q r p (taskOf K (t + 1)) (p .view)) (omega arith) (at-first now r full p t moved x y A q (omega arith)))),
   )
 
   -- every round, from its start on
@@ -557,7 +549,7 @@ cleared-stands n o P eight rs l j b =
     let zeros = map (laid n zeroRegister) rs in
     let long : length (take n zeros) ≡ n = length-take-le n zeros (let q = length-map rs (laid n zeroRegister) in omega arith) in
     sym
-    (ap (triple n) (getD-over n zeros rs i noRegister long (P .place-below j b) ∙ getD-map-below (laid n zeroRegister) rs i noRegister noRegister (below (P .place-below j b)))
+    (ap (triple n) (getD-over n zeros rs i noRegister long (P .place-within j b) ∙ getD-map-below (laid n zeroRegister) rs i noRegister noRegister (below (P .place-within j b)))
     ∙ zero-triple (getD rs i noRegister))
   where
     below : o .place j < n → o .place j < length rs
@@ -570,13 +562,13 @@ cleared-stands n o P eight rs l j b =
         ∙ ap (λ v. record { content = 0; seq = 0; view = v }) (take-replicate n 8 0 eight)
 
 module _ (n : ℕ) (o : Order) (P : Permutes n o) (z : 0 < n) (eight : n ≤ 8) (p : Process) (sized : Sized p) where
-  called-at : (K : Kind) → At n o P z eight K (p .register .seq) (begin n (taskAt K 0) p) 0
+  called-at : (K : Job) → At n o P z eight K (p .register .seq) (begin n (taskOf K 0) p) 0
       (record { moved = λ j. 0; a = λ j. zeroTriple n; b = λ j. zeroTriple n })
   unfolding begin
   called-at K =
       record {
-        sized = sized-begin n (taskAt K 0) p eight sized;
-        holds =
+        sized = sized-begin n (taskOf K 0) p eight sized;
+        remembers =
             record {
               moved = λ j l. sym (ap mark (none-moved j));
               a = cleared-stands n o P eight (p .first) (sized .firsts);
@@ -587,18 +579,18 @@ module _ (n : ℕ) (o : Order) (P : Permutes n o) (z : 0 < n) (eight : n ≤ 8) 
         seq = refl;
       }
 
-  scan-does : (k : ℕ) → Does o n (scan o n return k) 0 (begin n (Scan 0) p)
-  unfolding scan
+  scan-does : (k : ℕ) → Does o n (scanProcedure o n return k) 0 (begin n (Scan 0) p)
+  unfolding scanProcedure
   scan-does k =
-      while-does n o P z eight page (p .register .seq) k 0 0 (λ j. 0) (λ j. zeroTriple n) (λ j. zeroTriple n) (begin n (Scan 0) p) (omega arith) (called-at page)
+      while-does n o P z eight scan (p .register .seq) k 0 0 (λ j. 0) (λ j. zeroTriple n) (λ j. zeroTriple n) (begin n (Scan 0) p) (omega arith) (called-at scan)
 
-  update-does : (k w : ℕ) → Does o n (update o n k w (p .register .seq)) 0 (begin n (Update w 0) p)
-  unfolding update scan
+  update-does : (k w : ℕ) → Does o n (updateProcedure o n k w (p .register .seq)) 0 (begin n (Update w 0) p)
+  unfolding updateProcedure scanProcedure
   update-does k w =
-      while-does n o P z eight (entry w) (p .register .seq) k 0 0 (λ j. 0) (λ j. zeroTriple n) (λ j. zeroTriple n) (begin n (Update w 0) p) (omega arith) (called-at (entry w))
+      while-does n o P z eight (update 0 w) (p .register .seq) k 0 0 (λ j. 0) (λ j. zeroTriple n) (λ j. zeroTriple n) (begin n (Update w 0) p) (omega arith) (called-at (update 0 w))
 
   -- from its call on, the turns of a scan are Figure 3's scan, and those of an update its update, for any number k of rounds
   pub turns-are-figure-3 : (k : ℕ) →
-      Does o n (scan o n return k) 0 (begin n (Scan 0) p)
-      × ((w : ℕ) → Does o n (update o n k w (p .register .seq)) 0 (begin n (Update w 0) p))
+      Does o n (scanProcedure o n return k) 0 (begin n (Scan 0) p)
+      × ((w : ℕ) → Does o n (updateProcedure o n k w (p .register .seq)) 0 (begin n (Update w 0) p))
   turns-are-figure-3 k = (scan-does k, update-does k)

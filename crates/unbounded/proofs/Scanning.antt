@@ -25,16 +25,16 @@ use Rattle.unbounded.proofs.Scans.{Permutes, trace, Collecting, Complet
 module _ (n : ℕ) (o : Order) (R : ℕ → ℕ → Register) where
   -- process i, whose scan began at instant s, after t turns, at instant e: its collects a and c, the end of the first, its marks
   pub record Scanning (i s : ℕ) (a c : List Register) (end : ℕ) (ms : List Bool) (t e : ℕ) : Type 0 where
-    pub over : ℕ
+    pub failed : ℕ
     pub pos : ℕ
     pub begun : ℕ
-    pub attempts : Attempts n (2 * n) (λ j u. R j u .seq) i s (isMoved ms) over pos begun t e
+    pub attempts : Attempts n (2 * n) (λ j u. R j u .seq) i s (isMoved ms) failed pos begun t e
     pub collects : Collecting n o R begun e a c end pos
 
   pub scanning-starts : (i s : ℕ) (a c : List Register) (end : ℕ) → 0 < n → Scanning i s a c end noneMoved 0 s
   scanning-starts i s a c end z =
       record {
-        over = 0;
+        failed = 0;
         pos = 0;
         begun = s;
         attempts = attempts-start n (2 * n) (λ j u. R j u .seq) i s s (isMoved noneMoved) (omega arith) (omega arith) none-moved refl;
@@ -46,7 +46,7 @@ module _ (n : ℕ) (o : Order) (R : ℕ → ℕ → Register) where
     pub scanning-waits : R i (suc e) .seq ≡ R i e .seq → Scanning i s a c end ms t (suc e)
     scanning-waits q =
         record {
-          over = S .over;
+          failed = S .failed;
           pos = S .pos;
           begun = S .begun;
           attempts = attempts-wait n (2 * n) (λ j u. R j u .seq) (S .attempts) q;
@@ -67,9 +67,9 @@ module _ (n : ℕ) (o : Order) (R : ℕ → ℕ → Register) where
 
       -- its own reading turn, numbered e + 1, leaves the collects a′ and c′, the end of the first and the marks: if it finds no page
       -- the scan goes on, and if it does the page is good
-      abbrev pub Goes : (a′ c′ : List Register) (end′ : ℕ) (ms′ : List Bool) → Option (Found ℕ) → Type 0
-      Goes a′ c′ end′ ms′ none = Scanning i s a′ c′ end′ ms′ (t + 1) (suc e)
-      Goes a′ c′ end′ ms′ (some f) = Good (pageIn (trace R) n) s e (f .words) (f .instant)
+      abbrev pub Scanned : (a′ c′ : List Register) (end′ : ℕ) (ms′ : List Bool) → Option (Found ℕ) → Type 0
+      Scanned a′ c′ end′ ms′ none = Scanning i s a′ c′ end′ ms′ (t + 1) (suc e)
+      Scanned a′ c′ end′ ms′ (some f) = Good (pageIn (trace R) n) s e (f .words) (f .instant)
 
       pub scanning-reads : Permutes n o → n ≤ length ms → ((j : ℕ) → R j (suc e) .seq ≡ R j e .seq) →
           (r : Register) → length (take n (r .view)) ≡ n → n ≤ length a → n ≤ length c →
@@ -78,7 +78,7 @@ module _ (n : ℕ) (o : Order) (R : ℕ → ℕ → Register) where
           let c′ = secondAfter n (S .pos) r c in
           let end′ = endAfter n (S .pos) (suc e) end in
           let v = decision o n (S .pos) a′ c′ ms in
-          Goes a′ c′ end′ (marksAfter o n a′ c′ ms v) (found o n c′ end′ v)
+          Scanned a′ c′ end′ (marksAfter o n a′ c′ ms v) (found o n c′ end′ v)
       unfolding marksAfter pageOf
       scanning-reads P lm quiet r full la lc is = go (collecting-reads n o R r full la lc (S .attempts .until) is (S .collects))
         where
@@ -92,21 +92,21 @@ module _ (n : ℕ) (o : Order) (R : ℕ → ℕ → Register) where
           end′ = endAfter n (S .pos) (suc e) end
 
           Leaves : Option Verdict → Type 0
-          Leaves v = Goes a′ c′ end′ (marksAfter o n a′ c′ ms v) (found o n c′ end′ v)
+          Leaves v = Scanned a′ c′ end′ (marksAfter o n a′ c′ ms v) (found o n c′ end′ v)
 
           ends : (C : Complete n o R (S .begun) e end′ a′ c′) → (v : Verdict) →
               Ended (trace R) n (2 * n) ms il L (S .attempts) (collected n o R P C) (differs o a′ c′) v → Leaves (some v)
           ends C clean g = g
           ends C (lent j) g = g
           ends C again g =
-              record { over = suc (S .over); pos = 0; begun = suc e; attempts = g; collects = collecting-starts n o R (suc e) a′ c′ end′ (omega arith) }
+              record { failed = suc (S .failed); pos = 0; begun = suc e; attempts = g; collects = collecting-starts n o R (suc e) a′ c′ end′ (omega arith) }
 
           go : Reads n o R (S .begun) e a c end r (S .pos) → Leaves (decision o n (S .pos) a′ c′ ms)
           go (inl w) =
               let l = w .0 in
               subst Leaves (sym (decision-waits n o (S .pos) a′ c′ ms (λ q. omega arith)))
               (record {
-                over = S .over;
+                failed = S .failed;
                 pos = S .pos + 1;
                 begun = S .begun;
                 attempts = attempts-go n (2 * n) (λ j u. R j u .seq) (S .attempts) l (quiet i);

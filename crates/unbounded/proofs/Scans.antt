@@ -19,8 +19,8 @@ use Rattle.unbounded.proofs.Reading.{place-first, place-second, first-r
 
 -- an order of reading n registers: a permutation of the first n numbers, with its inverse
 pub record Permutes (n : ℕ) (o : Order) : Type 0 where
-  pub register-below : (p : ℕ) → p < n → o .register p < n
-  pub place-below : (j : ℕ) → j < n → o .place j < n
+  pub register-within : (p : ℕ) → p < n → o .register p < n
+  pub place-within : (j : ℕ) → j < n → o .place j < n
   pub register-place : (j : ℕ) → j < n → o .register (o .place j) ≡ j
   pub place-register : (p : ℕ) → p < n → o .place (o .register p) ≡ p
 
@@ -33,8 +33,8 @@ trace R =
       value = value;
       view = λ r. r .view;
       at = λ r. r .at;
-      holds = R;
-      count = λ j t. R j t .seq;
+      stood = R;
+      writes = λ j t. R j t .seq;
       Made = λ j u t. Unit {0};
     }
 
@@ -128,8 +128,8 @@ module _ (n : ℕ) (o : Order) (R : ℕ → ℕ → Register) where
         record {
           start = b;
           from = omega arith;
-          firsts = λ j l. placed a j l (C .firsts (o .place j) (P .place-below j l));
-          seconds = λ j l. placed c j l (C .seconds (o .place j) (P .place-below j l));
+          firsts = λ j l. placed a j l (C .firsts (o .place j) (P .place-within j l));
+          seconds = λ j l. placed c j l (C .seconds (o .place j) (P .place-within j l));
         }
       where
         placed : (rs : List Register) {low high : ℕ} (j : ℕ) → j < n → HeldAt rs (o .place j) low high →

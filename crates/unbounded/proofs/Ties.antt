@@ -103,14 +103,14 @@ module _ (n : ℕ) (o : Order) (H : ℕ → State Process) where
         (wrote : trimmed n (p .register) ≡ record { word = w; seq = registerAt i e .seq + 1; view = view; at = at }) where
       pub laws-write : Laws (suc e)
       laws-write j b =
-          by-cases (ℕ-discrete j i) (λ x. subst (λ k. History (trace registerAt) n k (suc e)) (sym x) written)
+          by-cases (ℕ-discrete j i) (λ x. subst (λ k. History (trace registerAt) n k (suc e)) (sym x) own-history)
           (λ x. register-stays j b (ap (λ q. trimmed n (q .register)) (E .other j x)))
         where
           now-holds : registerAt i (suc e) ≡ record { word = w; seq = registerAt i e .seq + 1; view = view; at = at }
           now-holds = ap (λ q. trimmed n (q .register)) (E .own) ∙ wrote
 
-          written : History (trace registerAt) n i (suc e)
-          written =
+          own-history : History (trace registerAt) n i (suc e)
+          own-history =
               history-writes (trace registerAt) n i e (L i (E .inside)) s
               (subst (λ r. Good (pageAt (figure3 o) n H) s e (r .view) (r .at)) (sym now-holds) good) own
               (ap (λ r. r .seq) now-holds ∙ add-one (registerAt i e .seq)) (λ u l. tt)

@@ -93,12 +93,12 @@ module _ (o : Order) (n : ℕ) (finish : ℕ → List ℕ → Procedure) where
       (search n 0 a b moved (λ moved. whileTrue k moved a b) finish)))
 
   -- line 0: for j = 1 to n do moved[j] := 0; a place that was not read yet is 0
-  unfoldable pub scan : ℕ → Procedure
-  scan k = whileTrue k (λ j. 0) (λ j. zeroTriple n) (λ j. zeroTriple n)
+  unfoldable pub scanProcedure : ℕ → Procedure
+  scanProcedure k = whileTrue k (λ j. 0) (λ j. zeroTriple n) (λ j. zeroTriple n)
 
 -- update, by a process whose register's seq is s: line 1, s[1..n] := scan; line 2, r := (data, r.seq + 1, s[1..n])
-unfoldable pub update : Order → ℕ → ℕ → (word s : ℕ) → Procedure
-update o n k word s = scan o n (λ lender words. write (record { content = word; seq = s + 1; view = words })) k
+unfoldable pub updateProcedure : Order → ℕ → ℕ → (word s : ℕ) → Procedure
+updateProcedure o n k word s = scanProcedure o n (λ lender words. write (record { content = word; seq = s + 1; view = words })) k
 
 -- ---- the turns of a process are a procedure
 

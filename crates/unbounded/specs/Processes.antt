@@ -24,10 +24,10 @@ turnsOf (Scan t) = t
 turnsOf (Update w t) = t
 turnsOf (Ready w at t) = t
 
--- the task that a call sets
-abbrev pub taskOf : Job → Task
-taskOf scan = Scan 0
-taskOf (update register w) = Update w 0
+-- the task of a job that reads, after so many turns
+abbrev pub taskOf : Job → (turns : ℕ) → Task
+taskOf scan t = Scan t
+taskOf (update register w) t = Update w t
 
 -- no process: what a place that a table does not have is taken for
 abbrev pub noProcess : Process
