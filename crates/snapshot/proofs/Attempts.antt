@@ -1,5 +1,5 @@
--- The double collects that a scan attempts, counted by its marks: fewer than n end without a page, so a scan ends (Lemmas 3.4, 4.4).
--- A double collect takes k turns; writes j t is how often register j was written by instant t.
+-- The double collects that a scan attempts, counted by its marks: fewer than n fail, so a scan ends (Lemmas 3.4, 4.4). A double
+-- collect takes k turns; writes j t is how often register j was written by instant t.
 use Prim.Native.Nat.{ℕ, suc, _+_, _*_, _%_, _≤_, _<_}
 use native.Mathlib.Omega.{arith}
 use lib.Arith.{digits-lt, digits-mod}
@@ -10,8 +10,8 @@ use Rattle.snapshot.proofs.Booleans.{bool-cases}
 use Rattle.snapshot.proofs.Lists.{below, below-less, below-missing}
 
 module _ (n k : ℕ) (writes : ℕ → ℕ → ℕ) where
-  -- process i, whose scan began at instant s, after t turns of it, at instant e: `failed` double collects are failed, and the one that
-  -- began at instant `begun` has had `pos` turns
+  -- process i, whose scan began at instant s, after t turns of it, at instant e: `failed` double collects ended without a page,
+  -- and the one that began at instant `begun` has had `pos` turns
   pub record Attempts (i s : ℕ) (marked : ℕ → Bool) (failed pos begun t e : ℕ) : Type 0 where
     pub turns : t ≡ failed * k + pos
     pub low : pos < k

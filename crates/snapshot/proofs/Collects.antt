@@ -1,5 +1,5 @@
--- What a double collect stood of the registers' histories, and what its end tells: who did not move stood so when the first collect
--- ended (Lemmas 3.1, 4.1), and who was written before it and in it lends a good page (Lemmas 3.2, 4.2).
+-- What a double collect holds of the registers' histories, and what its end tells: who did not move stood so when the first
+-- collect ended (Lemmas 3.1, 4.1), and who was written before it and in it lends a good page (Lemmas 3.2, 4.2).
 use Prim.Native.Nat.{ℕ, suc, _≤_, _<_}
 use native.Mathlib.Omega.{arith}
 use mathlib.Core.Path.{_≡_, sym, ap, _∙_, subst}
@@ -21,7 +21,8 @@ module _ (T : Trace) where
   held-later high′ l h =
       record { instant = h .instant; from = h .from; before = let g = h .before in omega arith; same = h .same }
 
-  pub held-same : {got : T .Register} {j low high : ℕ} (got′ : T .Register) → got′ ≡ got → Held got j low high → Held got′ j low high
+  pub held-same : {got : T .Register} {j low high : ℕ} (got′ : T .Register) → got′ ≡ got → Held got j low high →
+      Held got′ j low high
   held-same got′ q h = record { instant = h .instant; from = h .from; before = h .before; same = q ∙ h .same }
 
   -- the two collects of a double collect begun at b, the first of which ended with event `end`, have a j and c j of register j
@@ -46,7 +47,8 @@ module _ (T : Trace) where
         (omega arith, omega arith)
 
     -- nobody was written between the two reads
-    pub collect-clean : 0 < n → ((j : ℕ) (l : j < n) → T .writes j (C .firsts j l .instant) ≡ T .writes j (C .seconds j l .instant)) →
+    pub collect-clean : 0 < n →
+        ((j : ℕ) (l : j < n) → T .writes j (C .firsts j l .instant) ≡ T .writes j (C .seconds j l .instant)) →
         Good (pageIn T n) s e (each n (λ j. T .value (c j))) end
     collect-clean z still =
         let w = ended 0 z in
@@ -67,19 +69,20 @@ module _ (T : Trace) where
             (omega arith) (g .from) (omega arith) (still j l))
 
     -- j was written since the scan began, and again since this double collect did
-    pub collect-lent : (j : ℕ) (l : j < n) → T .writes j s < T .writes j b → T .writes j b < T .writes j (C .seconds j l .instant) →
-        Good (pageIn T n) s e (T .view (c j)) (T .at (c j))
+    pub collect-lent : (j : ℕ) (l : j < n) → T .writes j s < T .writes j b →
+        T .writes j b < T .writes j (C .seconds j l .instant) → Good (pageIn T n) s e (T .view (c j)) (T .at (c j))
     collect-lent j l k d =
         let g = C .seconds j l in
         let g1 = g .from in
         let g2 = g .before in
         let w = ended j l .0 in
         subst (λ r. Good (pageIn T n) s e (T .view r) (T .at r)) (sym (g .same))
-        (borrowed (pageIn T n) (λ t. T .at (T .stood j t)) (λ t. T .view (T .stood j t)) (λ t. suc (T .writes j t)) (T .writes j) (T .Made j)
-        e (L j l .viewed) s (g .instant) (omega arith) (omega arith) (omega arith))
+        (borrowed (pageIn T n) (λ t. T .at (T .stood j t)) (λ t. T .view (T .stood j t)) (λ t. suc (T .writes j t)) (T .writes j)
+        (T .Made j) e (L j l .viewed) s (g .instant) (omega arith) (omega arith) (omega arith))
 
     -- who was written since this double collect began was written since the scan did, as it stands now
-    pub collect-moved : (j : ℕ) (l : j < n) → T .writes j b < T .writes j (C .seconds j l .instant) → T .writes j s < T .writes j e
+    pub collect-moved : (j : ℕ) (l : j < n) → T .writes j b < T .writes j (C .seconds j l .instant) →
+        T .writes j s < T .writes j e
     collect-moved j l d =
         let g = C .seconds j l in
         let g1 = g .from in

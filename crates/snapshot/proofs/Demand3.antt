@@ -14,22 +14,24 @@ use lib.Seq.{getD-set-same, getD-set-other, map-set-same}
 use lib.Dec.{eqb, ltb}
 use borrow.Author.Tests.{eqb-true, eqb-false, ltb-false, ne-eqb, le-ltb}
 use Rattle.snapshot.specs.declared.Refusal.{Refusal}
-use Rattle.snapshot.specs.declared.Refusal.the-variants.{CountRange, ProcessRange, Busy, Idle, DayFull, LentSize, OpenState, CannotArise}
+use Rattle.snapshot.specs.declared.Refusal.the-variants.{CountRange, ProcessRange, Busy, Idle, DayFull, LentSize}
+use Rattle.snapshot.specs.declared.Refusal.the-variants.{OpenState, CannotArise}
 use Rattle.snapshot.specs.declared.Answer.{Answer}
 use Rattle.snapshot.specs.declared.Answer.the-variants.{Called}
 use Rattle.snapshot.specs.Lists.{someOf}
 use Rattle.snapshot.specs.Refusals.{numberOf, Cause, firstCause}
 use Rattle.snapshot.specs.Tally.{Job, scan, update, Seen, call, turn, Call, started, opens, gains}
 use Rattle.snapshot.specs.Demand.{Result, Among, RefusalFits, Holds, admit, step}
-use Rattle.snapshot.specs.Days.{Machine, State, Item, openFor, updateCall, scanCall, turnOf, sees, outside, isFull, cannotArise}
-use Rattle.snapshot.specs.Days.{processOf, openingCauses, causes, callCauses, turnCauses, refusal}
+use Rattle.snapshot.specs.Days.{Machine, State, Item, openFor, updateCall, scanCall, turnOf, sees}
+use Rattle.snapshot.specs.Days.{outside, isFull, cannotArise, processOf, openingCauses, causes, callCauses, turnCauses, refusal}
 use Rattle.snapshot.specs.Days.{openedBy, advance, calledBy, readFrom, turnBy, accept, method, openedFor}
 use Rattle.snapshot.proofs.Booleans.{or-neither, not-false}
 use Rattle.snapshot.proofs.Causes.{accepted-passes, Avoids, refused-avoids, refused-first}
 use Rattle.snapshot.proofs.Lists.{some-of-none, map-set, map-replicate, map-constant, list-is-each, each-cong}
 use Rattle.snapshot.proofs.Owed.{Owed, Deed, call-deed, read-deed, page-deed, write-deed, actor}
 use Rattle.snapshot.proofs.Fold.{Starts, holds}
-use Rattle.snapshot.proofs.Works.{Owns, noCall, processAt, pageAt, turnAt, Event, TurnDeed, turn-reads, turn-pages, turn-writes, Works}
+use Rattle.snapshot.proofs.Works.{Owns, noCall, processAt, pageAt, turnAt, Event, Works}
+use Rattle.snapshot.proofs.Works.{TurnDeed, turn-reads, turn-pages, turn-writes}
 
 -- ---- tests
 
@@ -60,13 +62,15 @@ module _ (M : Machine) (n : ℕ) (W : (H : ℕ → State (M .Process)) → Works
   abbrev tied : (ℕ → State (M .Process)) → ℕ → ℕ → Option Call → Type 0
   tied H e i c = W H .Tie e i (processAt M H i e) c
 
+  abbrev words : State (M .Process) → List (M .Value)
+  words s = map (M .value) (s .table)
+
   -- a table of n records shows the page of its instant
-  table-shows : (H : ℕ → State (M .Process)) (t : ℕ) → length (H t .table) ≡ n → map (M .value) (H t .table) ≡ pageAt M n H t
+  table-shows : (H : ℕ → State (M .Process)) (t : ℕ) → length (H t .table) ≡ n → words (H t) ≡ pageAt M n H t
   table-shows H t q =
       let blank = M .value (M .noProcess) in
-      let words = map (M .value) (H t .table) in
-      list-is-each n blank words (length-map (H t .table) (M .value) ∙ q)
-      ∙ each-cong n (λ j. getD words j blank) (λ j. M .value (processAt M H j t))
+      list-is-each n blank (words (H t)) (length-map (H t .table) (M .value) ∙ q)
+      ∙ each-cong n (λ j. getD (words (H t)) j blank) (λ j. M .value (processAt M H j t))
       (λ j l. List·getD-map (M .value) (H t .table) j (M .noProcess))
 
   module _ (H : ℕ → State (M .Process)) (e : ℕ) (open-call : ℕ → Option Call) (A : Past H e) (number : H e .day .event ≡ e)
@@ -93,7 +97,10 @@ module _ (M : Machine) (n : ℕ) (W : (H : ℕ → State (M .Process)) → Works
         (λ q. apart LentSize CannotArise (λ r. omega arith)),
         (
           (λ q r. true≢false (sym q ∙ can-arise)),
-          ((λ q. apart ProcessRange CannotArise (λ r. omega arith)), ((λ q. h), ((λ q. apart DayFull CannotArise (λ r. omega arith)), tt))),
+          (
+            (λ q. apart ProcessRange CannotArise (λ r. omega arith)),
+            ((λ q. h), ((λ q. apart DayFull CannotArise (λ r. omega arith)), tt)),
+          ),
         ),
       ),
     )
@@ -109,7 +116,8 @@ module _ (M : Machine) (n : ℕ) (W : (H : ℕ → State (M .Process)) → Works
     -- a day that is open refuses a further opening with 10
     open-refused : (k : ℕ) → firstCause (openingCauses M (H e) k) ≡ some OpenState
     open-refused k =
-        refused-first (not (eqb (H e .day .count) 0), OpenState) ((outside 1 8 k, CountRange) ∷ (not (eqb (length (H e .table)) k), LentSize) ∷ [])
+        refused-first (not (eqb (H e .day .count) 0), OpenState)
+        ((outside 1 8 k, CountRange) ∷ (not (eqb (length (H e .table)) k), LentSize) ∷ [])
         (ap not (ne-eqb (H e .day .count) 0 (λ q. let c = A .count in omega arith)))
 
     refused-fits : (x : Item) (k : Refusal) → refusal M (H e) x ≡ some k → RefusalFits k (sees x)
@@ -148,8 +156,10 @@ module _ (M : Machine) (n : ℕ) (W : (H : ℕ → State (M .Process)) → Works
           let s = A .sizes e (omega arith) in
           record {
             inside = omega arith;
-            own = ap (λ s. getD (s .table) (d - 1) (M .noProcess)) next ∙ getD-set-same (H e .table) (d - 1) p (M .noProcess) (omega arith);
-            other = λ j h. ap (λ s. getD (s .table) j (M .noProcess)) next ∙ getD-set-other (H e .table) (d - 1) j p (M .noProcess) h;
+            own = ap (λ s. getD (s .table) (d - 1) (M .noProcess)) next
+                ∙ getD-set-same (H e .table) (d - 1) p (M .noProcess) (omega arith);
+            other = λ j h. ap (λ s. getD (s .table) j (M .noProcess)) next
+                ∙ getD-set-other (H e .table) (d - 1) j p (M .noProcess) h;
           }
 
       next-event : H (suc e) .day .event ≡ suc e
@@ -170,15 +180,14 @@ module _ (M : Machine) (n : ℕ) (W : (H : ℕ → State (M .Process)) → Works
             limit = l;
           }
 
-      words-stay : M .value p ≡ M .value (processAt M H (d - 1) e) → map (M .value) (H (suc e) .table) ≡ map (M .value) (H e .table)
+      words-stay : M .value p ≡ M .value (processAt M H (d - 1) e) → words (H (suc e)) ≡ words (H e)
       unfolding advance
-      words-stay q = ap (λ s. map (M .value) (s .table)) next ∙ map-set-same (M .value) (H e .table) (d - 1) p (M .noProcess) q
+      words-stay q = ap words next ∙ map-set-same (M .value) (H e .table) (d - 1) p (M .noProcess) q
 
-      words-change : (v : M .Value) → M .value p ≡ v → map (M .value) (H (suc e) .table) ≡ set (map (M .value) (H e .table)) (d - 1) v
+      words-change : (v : M .Value) → M .value p ≡ v → words (H (suc e)) ≡ set (words (H e)) (d - 1) v
       unfolding advance
       words-change v q =
-          ap (λ s. map (M .value) (s .table)) next ∙ map-set (M .value) (H e .table) (d - 1) p
-          ∙ ap (λ v. set (map (M .value) (H e .table)) (d - 1) v) q
+          ap words next ∙ map-set (M .value) (H e .table) (d - 1) p ∙ ap (λ v. set (words (H e)) (d - 1) v) q
 
       own-tied : (c : Option Call) → W H .Tie (suc e) (d - 1) p c → tied H (suc e) (d - 1) c
       own-tied c t = subst (λ q. W H .Tie (suc e) (d - 1) q c) (sym (event .own)) t
@@ -194,10 +203,11 @@ module _ (M : Machine) (n : ℕ) (W : (H : ℕ → State (M .Process)) → Works
       turn-deed c page is (turn-reads v t) = read-deed d c m is (words-stay v) (own-tied (some (gains c)) t)
       turn-deed c page is (turn-pages lender at turns job count good v t) =
           page-deed d c lender at turns m is job count
-          (good .true ∙ sym (table-shows H at (A .sizes at (good .early)))) (good .late) (good .early) (words-stay v) (own-tied none t)
+          (good .true ∙ sym (table-shows H at (A .sizes at (good .early)))) (good .late) (good .early)
+          (words-stay v) (own-tied none t)
       turn-deed c page is (turn-writes w turns job count v t) =
           write-deed d c (job .0) w turns m is (job .2) count
-          (words-change (M .stored (suc e) w) v ∙ ap (λ i. set (map (M .value) (H e .table)) i (M .stored (suc e) w)) (sym (job .1)))
+          (words-change (M .stored (suc e) w) v ∙ ap (λ i. set (words (H e)) i (M .stored (suc e) w)) (sym (job .1)))
           (own-tied none t)
 
     -- what `Owed` asks of an accepted item, its result given
@@ -209,17 +219,21 @@ module _ (M : Machine) (n : ℕ) (W : (H : ℕ → State (M .Process)) → Works
         × ((i : ℕ) → i < n → i ≢ actor x → (c : Option Call) → tied H e i c → tied H (suc e) i c)
         × Deed (method M n) tied H e open-call (M .shown n (take (M .pageLength n) (r .page))) x (r .answer)
 
+    -- the result of an item that leaves process d the record p
+    abbrev leaves : ℕ → M .Process → Answer → List ℕ → Result (State (M .Process))
+    leaves d p a page = record { state = advance M (H e) d p; answer = a; page = page }
+
     call-acts : (d : ℕ) (j : Job) → Owns (d - 1) j → firstCause (callCauses M (H e) d) ≡ none →
         Acts (call d j) (record { state = calledBy M (H e) d j; answer = Called; page = [] })
     unfolding calledBy
     call-acts d j o q =
         let p = processAt M H (d - 1) e in
         let ok = accepted d false (not (M .isIdle p), Busy) q in
-        subst (λ k. Acts (call d j) (record { state = advance M (H e) d (M .called k j p); answer = Called; page = [] })) (sym (A .count))
+        subst (λ k. Acts (call d j) (leaves d (M .called k j p) Called [])) (sym (A .count))
         (go ok (open-call (d - 1)) refl (T (d - 1) (let a = ok .among in omega arith)))
       where
-        go : Accepted d (not (M .isIdle (processAt M H (d - 1) e)), Busy) → (b : Option Call) → open-call (d - 1) ≡ b → tied H e (d - 1) b →
-            Acts (call d j) (record { state = advance M (H e) d (M .called n j (processAt M H (d - 1) e)); answer = Called; page = [] })
+        go : Accepted d (not (M .isIdle (processAt M H (d - 1) e)), Busy) → (b : Option Call) → open-call (d - 1) ≡ b →
+            tied H e (d - 1) b → Acts (call d j) (leaves d (M .called n j (processAt M H (d - 1) e)) Called [])
         go ok (some c) is t next =
             let p = processAt M H (d - 1) e in
             absurd (true≢false (sym (not-false (M .isIdle p) (ok .right)) ∙ W H .idle e (d - 1) p (some c) t))
@@ -237,11 +251,12 @@ module _ (M : Machine) (n : ℕ) (W : (H : ℕ → State (M .Process)) → Works
     unfolding turnBy
     turn-is d page =
         let p = processAt M H (d - 1) e in
-        ap₂ (λ k t. M .turned k (d - 1) t (readFrom M (H e .table) (M .reads k p)) page p) (A .count) (ap (λ t. t + 1) number ∙ add-one e)
+        ap₂ (λ k t. M .turned k (d - 1) t (readFrom M (H e .table) (M .reads k p)) page p) (A .count)
+        (ap (λ t. t + 1) number ∙ add-one e)
 
     turn-acts : (d : ℕ) (page : List ℕ) → firstCause (turnCauses M (H e) d page) ≡ none →
         let r = turnAt M n H (d - 1) e page in
-        Acts (turn d) (record { state = advance M (H e) d (r .state); answer = r .answer; page = r .page })
+        Acts (turn d) (leaves d (r .state) (r .answer) (r .page))
     turn-acts d page q =
         let ok = accepted d (ltb (length page) (M .pageLength (H e .day .count))) (M .isIdle (processAt M H (d - 1) e), Idle) q in
         go ok (open-call (d - 1)) refl (T (d - 1) (let a = ok .among in omega arith))
@@ -249,8 +264,8 @@ module _ (M : Machine) (n : ℕ) (W : (H : ℕ → State (M .Process)) → Works
         r : Result (M .Process)
         r = turnAt M n H (d - 1) e page
 
-        go : Accepted d (M .isIdle (processAt M H (d - 1) e), Idle) → (b : Option Call) → open-call (d - 1) ≡ b → tied H e (d - 1) b →
-            Acts (turn d) (record { state = advance M (H e) d (r .state); answer = r .answer; page = r .page })
+        go : Accepted d (M .isIdle (processAt M H (d - 1) e), Idle) → (b : Option Call) → open-call (d - 1) ≡ b →
+            tied H e (d - 1) b → Acts (turn d) (leaves d (r .state) (r .answer) (r .page))
         go ok none is t next = absurd (true≢false (sym (W H .idle e (d - 1) (processAt M H (d - 1) e) none t) ∙ ok .right))
         go ok (some c) is t next =
             let m = ok .among in
@@ -267,7 +282,7 @@ module _ (M : Machine) (n : ℕ) (W : (H : ℕ → State (M .Process)) → Works
     item-acts (updateCall d w) q = call-acts d (update d w) refl q
     item-acts (scanCall d) q = call-acts d scan tt q
     item-acts (turnOf d page) q =
-        subst (λ r. Acts (turn d) (record { state = advance M (H e) d (r .state); answer = r .answer; page = r .page })) (sym (turn-is d page))
+        subst (λ r. Acts (turn d) (leaves d (r .state) (r .answer) (r .page))) (sym (turn-is d page))
         (turn-acts d page q)
 
   -- ---- the theorem
@@ -292,7 +307,8 @@ module _ (M : Machine) (n : ℕ) (W : (H : ℕ → State (M .Process)) → Works
     first-past =
         record {
           count = ap (λ s. s .day .count) first;
-          sizes = λ t l. ap (λ k. length (H k .table)) (omega arith) ∙ ap (λ s. length (s .table)) first ∙ length-replicate n (M .zeroProcess);
+          sizes = λ t l. ap (λ k. length (H k .table)) (omega arith) ∙ ap (λ s. length (s .table)) first
+              ∙ length-replicate n (M .zeroProcess);
           laws = W H .laws-start first-process;
           limit = omega arith;
         }

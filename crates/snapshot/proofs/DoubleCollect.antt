@@ -1,4 +1,4 @@
--- The end of a double collect: what its verdict tells, and what it leaves failed the registers' histories.
+-- The end of a double collect: what its verdict tells, and what it leaves, over the registers' histories.
 use Prim.Native.Nat.{ℕ, suc, _+_, _≤_, _<_}
 use native.Mathlib.Omega.{arith}
 use mathlib.Core.Path.{_≡_, refl}
@@ -58,7 +58,7 @@ module _ (n : ℕ) (moved lends : ℕ → Bool) where
   unfolding verdict
   verdict-again q l = rw (ne-eqb (firstBelow n moved) n q, le-ltb (firstBelow n lends) n l)
 
--- ---- failed the registers' histories
+-- ---- over the registers' histories
 
 module _ (T : Trace) (n k : ℕ) {i s failed pos begun t e end : ℕ} (ms : List Bool) {a c : ℕ → T .Register} (il : i < n)
     (L : (j : ℕ) → j < n → History T n j e) (S : Attempts n k (T .writes) i s (isMoved ms) failed pos begun t e)
@@ -69,7 +69,7 @@ module _ (T : Trace) (n k : ℕ) {i s failed pos begun t e end : ℕ} (ms : List
   Ended (lent j) = Good (pageIn T n) s e (T .view (c j)) (T .at (c j))
   Ended again = Attempts n k (T .writes) i s (isMoved (markFrom moved n 0 ms)) (suc failed) 0 (suc e) (t + 1) (suc e)
 
-  -- it ends so where who did not move was not written between the two reads, and who moved was written since the double collect began
+  -- it ends so where who did not move was not written between the two reads, and who moved was since the double collect began
   pub double-collect-ends : n ≤ length ms → pos + 1 ≡ k → ((j : ℕ) → j < n → T .writes j (suc e) ≡ T .writes j e) →
       ((j : ℕ) (l : j < n) → moved j ≡ false → T .writes j (C .firsts j l .instant) ≡ T .writes j (C .seconds j l .instant)) →
       ((j : ℕ) (l : j < n) → moved j ≡ true → T .writes j begun < T .writes j (C .seconds j l .instant)) →

@@ -77,7 +77,8 @@ module _ (f : ℕ → Bool) where
   step-keeps ms j i false h = h
   step-keeps ms j i true h =
       by-cases (ℕ-discrete i j)
-      (λ e. by-cases (decLt j (length ms)) (λ l. ap (isMoved (withMoved ms j)) e ∙ moved-same ms j l) (λ l. ap (λ m. isMoved m i) (moved-out ms j (omega arith)) ∙ h))
+      (λ e. by-cases (decLt j (length ms)) (λ l. ap (isMoved (withMoved ms j)) e ∙ moved-same ms j l)
+      (λ l. ap (λ m. isMoved m i) (moved-out ms j (omega arith)) ∙ h))
       (λ e. moved-other ms i j e ∙ h)
 
   pub marks-keep : (k j : ℕ) (ms : List Bool) (i : ℕ) → isMoved ms i ≡ true → isMoved (markFrom f k j ms) i ≡ true

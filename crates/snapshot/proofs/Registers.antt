@@ -6,7 +6,7 @@ use mathlib.Core.Path.{_≡_, sym, ap, _∙_, subst}
 use mathlib.Core.Logic.{by-cases}
 
 module _ {A : Type 0} (R : ℕ → A) (writes : ℕ → ℕ) where
-  -- up to instant e: the writes never falls, and where it stands still nothing was written
+  -- up to instant e: the number of writes never falls, and where it stands still nothing was written
   pub record Counted (e : ℕ) : Type 0 where
     pub rises : (u t : ℕ) → u ≤ t → t ≤ e → writes u ≤ writes t
     pub same : (u t : ℕ) → u ≤ t → t ≤ e → writes u ≡ writes t → R u ≡ R t
@@ -48,7 +48,7 @@ module _ {A : Type 0} (R : ℕ → A) (writes : ℕ → ℕ) where
     pub counted-writes : writes e < writes (suc e) → Counted (suc e)
     counted-writes c = counted-next (omega arith) (λ q. absurd (omega arith))
 
-    -- a register with one writes in two reads stood so at every instant between (Figure 3; Lemma 3.1)
+    -- a register with one number of writes in two reads stood so at every instant between (Figure 3; Lemma 3.1)
     pub between : (u m t : ℕ) → u ≤ m → m ≤ t → t ≤ e → writes u ≡ writes t → R m ≡ R t
     between u m t um mt te c =
         let a = h .rises u m um (omega arith) in

@@ -1,4 +1,4 @@
--- The registers of a method through a history, and the laws that hold of each up to an instant.
+-- The registers of a method through a history, and the laws that hold of each up to an instant, however its writes are counted.
 use Prim.Native.Nat.{ℕ, suc, _≤_, _<_}
 use native.Mathlib.Omega.{arith}
 use native.Mathlib.Decide.{decLe}

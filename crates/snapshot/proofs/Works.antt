@@ -1,5 +1,5 @@
--- What a machine owes so that demand 3 holds of it (`Demand3`): laws of the past, what ties a record to its open call, and that calls
--- and turns keep both. H t is the state at instant t. Refusals, event numbers, tables and lists are no part of it.
+-- What a machine owes so that demand 3 holds of it (`Demand3`): laws of the past, what ties a record to its open call, and that
+-- calls and turns keep both. H t is the state at instant t. Refusals, event numbers and tables are no part of it.
 use Prim.Native.Nat.{ℕ, suc, _-_, _<_}
 use mathlib.Core.Path.{_≡_}
 use mathlib.Core.Logic.{_≢_}
@@ -67,7 +67,8 @@ module _ (M : Machine) (n : ℕ) (H : ℕ → State (M .Process)) where
     -- a process is idle where it has no open call, has had fewer turns than the most, and can have arisen
     pub idle : (e i : ℕ) (p : M .Process) (c : Option Call) → Tie e i p c → M .isIdle p ≡ noCall c
     pub patient : (e i : ℕ) (c : Call) → i < n → Laws e → Tie e i (processAt M H i e) (some c) → c .turns < M .most n (c .job)
-    pub sound : (e i : ℕ) (c : Option Call) → i < n → Laws e → Tie e i (processAt M H i e) c → M .unsound n e (processAt M H i e) ≡ false
+    pub sound : (e i : ℕ) (c : Option Call) → i < n → Laws e → Tie e i (processAt M H i e) c →
+        M .unsound n e (processAt M H i e) ≡ false
     -- another process's event
     pub waits : (e i : ℕ) (p : M .Process) → Laws e → Event e i p → (j : ℕ) (c : Option Call) → j < n → j ≢ i →
         Tie e j (processAt M H j e) c → Tie (suc e) j (processAt M H j e) c

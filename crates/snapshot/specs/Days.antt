@@ -8,7 +8,8 @@ use lib.ListN.{length, getD, set, take, replicate}
 use lib.Dec.{eqb, ltb}
 use Rattle.snapshot.specs.declared.Day.{Day}
 use Rattle.snapshot.specs.declared.Refusal.{Refusal}
-use Rattle.snapshot.specs.declared.Refusal.the-variants.{CountRange, ProcessRange, Busy, Idle, DayFull, LentSize, OpenState, CannotArise}
+use Rattle.snapshot.specs.declared.Refusal.the-variants.{CountRange, ProcessRange, Busy, Idle, DayFull, LentSize}
+use Rattle.snapshot.specs.declared.Refusal.the-variants.{OpenState, CannotArise}
 use Rattle.snapshot.specs.declared.Answer.the-variants.{Opened, Called}
 use Rattle.snapshot.specs.Lists.{someOf}
 use Rattle.snapshot.specs.Refusals.{Cause, firstCause}

@@ -1,5 +1,5 @@
--- Each call and turn of Figure 3 is what `Works` asks: its record is tied to its open call again, or its answer is a good page or a
--- write.
+-- Each call and turn of Figure 3 is what `Works` asks: its record is tied to its open call again, or its answer is a good page or
+-- a write.
 use Prim.Native.Nat.{ℕ, suc, _+_, _≤_, _<_}
 use native.Mathlib.Numerals.{add-one}
 use native.Mathlib.Omega.{arith}
@@ -23,7 +23,8 @@ use Rattle.unbounded.specs.declared.Task.{Task}
 use Rattle.unbounded.specs.declared.Task.the-variants.{Idle, Scan, Update, Ready}
 use Rattle.unbounded.specs.Registers.{value, Order, cleared}
 use Rattle.unbounded.specs.Processes.{taskOf, begin}
-use Rattle.unbounded.specs.Turns.{position, placeAt, reads, firstAfter, secondAfter, endAfter, decision, marksAfter, afterRead, foundBy, scanTurn, updateTurn, written, withRegister, turned, turnedBy}
+use Rattle.unbounded.specs.Turns.{position, placeAt, reads, firstAfter, secondAfter, endAfter, decision, marksAfter}
+use Rattle.unbounded.specs.Turns.{afterRead, foundBy, scanTurn, updateTurn, written, withRegister, turned, turnedBy}
 use Rattle.unbounded.specs.Days.{figure3}
 use Rattle.unbounded.proofs.Places.{trimmed, trimmed-laid}
 use Rattle.unbounded.proofs.Scans.{Permutes}
@@ -36,17 +37,29 @@ module _ (n : ℕ) (o : Order) (H : ℕ → State Process) (z : 0 < n) (eight : 
   abbrev before : Process
   before = processAt (figure3 o) H i e
 
+  -- the history of the registers, and of their pages
+  abbrev registers : ℕ → ℕ → Register
+  registers = registerAt n o H
+
+  abbrev pages : ℕ → List ℕ
+  pages = pageAt (figure3 o) n H
+
   -- ---- a call only sets the task
 
   call-tie : (j : Job) → Owns i j → Tie n o H (suc e) i (begin n (taskOf j 0) before) (taskOf j 0) (some (opens (suc e) j))
   unfolding begin
-  call-tie scan own = (refl, refl, scanning-starts n o (registerAt n o H) i (suc e) (cleared n (before .first)) (cleared n (before .second)) 0 z)
-  call-tie (update register w) own =
-      ((register, own, refl), refl, scanning-starts n o (registerAt n o H) i (suc e) (cleared n (before .first)) (cleared n (before .second)) 0 z)
+  call-tie scan own =
+      (refl, refl, scanning-starts n o registers i (suc e) (cleared n (before .first)) (cleared n (before .second)) 0 z)
+  call-tie (update register w) own = (
+    (register, own, refl),
+    refl,
+    scanning-starts n o registers i (suc e) (cleared n (before .first)) (cleared n (before .second)) 0 z,
+  )
 
   pub call-works : (j : Job) → Owns i j → Ties n o H e i before none →
       let p = begin n (taskOf j 0) before in
-      Event (figure3 o) n H e i p → Laws n o H (suc e) × (value (p .register) ≡ value (before .register)) × Ties n o H (suc e) i p (some (opens (suc e) j))
+      Event (figure3 o) n H e i p →
+      Laws n o H (suc e) × (value (p .register) ≡ value (before .register)) × Ties n o H (suc e) i p (some (opens (suc e) j))
   unfolding begin
   call-works j own T E = (
     laws-stay n o H e i (begin n (taskOf j 0) before) L E refl,
@@ -58,10 +71,10 @@ module _ (n : ℕ) (o : Order) (H : ℕ → State Process) (z : 0 < n) (eight : 
 
   -- a register's view, and a good page, have n words
   view-full : (j : ℕ) → j < n → length (take n (processAt (figure3 o) H j e .register .view)) ≡ n
-  view-full j b = ap length (L j b .viewed .true e (omega arith)) ∙ length-each n (λ k. value (registerAt n o H k (registerAt n o H j e .at)))
+  view-full j b = ap length (L j b .viewed .true e (omega arith)) ∙ length-each n (λ k. value (registers k (registers j e .at)))
 
-  good-full : {s at : ℕ} {ws : List ℕ} → Good (pageAt (figure3 o) n H) s e ws at → length ws ≡ n
-  good-full {at = at} g = ap length (g .true) ∙ length-each n (λ k. value (registerAt n o H k at))
+  good-full : {s at : ℕ} {ws : List ℕ} → Good pages s e ws at → length ws ≡ n
+  good-full {at = at} g = ap length (g .true) ∙ length-each n (λ k. value (registers k at))
 
   -- the register that is read at a position of a double collect
   abbrev read-at : ℕ → Register
@@ -87,15 +100,16 @@ module _ (n : ℕ) (o : Order) (H : ℕ → State Process) (z : 0 < n) (eight : 
       ScannedAt pos r =
           let a = firstAfter n pos r (before .first) in
           let b = secondAfter n pos r (before .second) in
-          Scanned n o (registerAt n o H) S il L a b (endAfter n pos (suc e) (before .«first_end»))
+          Scanned n o registers S il L a b (endAfter n pos (suc e) (before .«first_end»))
           (marksAfter o n a b (before .moved) (decision o n pos a b (before .moved)))
 
-      scanned-now : ((j : ℕ) → registerAt n o H j (suc e) ≡ registerAt n o H j e) → ScannedAt (position n t) read-now finds
+      scanned-now : ((j : ℕ) → registers j (suc e) ≡ registers j e) → ScannedAt (position n t) read-now finds
       unfolding foundBy
       scanned-now quiet =
-          subst (λ pos. ScannedAt pos (read-at pos) (foundBy o n (suc e) pos (read-at pos) before)) (sym (position-is n o (registerAt n o H) S))
-          (scanning-reads n o (registerAt n o H) S il L P (omega (arith, T .sized .marks)) (λ j. ap (λ r. r .seq) (quiet j)) (read-at (S .pos))
-          (view-full (o .register (placeAt n (S .pos))) (P .register-within (placeAt n (S .pos)) (place-below n (S .pos) (S .attempts .low))))
+          let place = placeAt n (S .pos) in
+          subst (λ pos. ScannedAt pos (read-at pos) (foundBy o n (suc e) pos (read-at pos) before)) (sym (position-is n o registers S))
+          (scanning-reads n o registers S il L P (omega (arith, T .sized .marks)) (λ j. ap (λ r. r .seq) (quiet j)) (read-at (S .pos))
+          (view-full (o .register place) (P .register-within place (place-below n (S .pos) (S .attempts .low))))
           (omega (arith, T .sized .firsts)) (omega (arith, T .sized .seconds)) refl)
 
       -- a scan's reading turn
@@ -121,12 +135,13 @@ module _ (n : ℕ) (o : Order) (H : ℕ → State Process) (z : 0 < n) (eight : 
         scan-found (some f) good E = (
           laws-stay n o H e i (begin n Idle before) L E refl,
           turn-pages (f .lender) (f .instant) (t + 1) job (add-one t ∙ ap suc (sym count))
-              (subst (λ ws. Good (pageAt (figure3 o) n H) (c .number) e ws (f .instant)) (sym (take-over-all n (f .words) page (good-full good))) good)
+              (subst (λ ws. Good pages (c .number) e ws (f .instant)) (sym (take-over-all n (f .words) page (good-full good))) good)
               refl (record { sized = sized-begin n Idle before eight (T .sized); tie = tt }),
         )
 
         scan-turn-works : Worked (scan-result finds)
-        scan-turn-works E = scan-found finds (scanned-now (registers-stay n o H e i (scan-result finds .state) L E (scan-register finds))) E
+        scan-turn-works E =
+            scan-found finds (scanned-now (registers-stay n o H e i (scan-result finds .state) L E (scan-register finds))) E
 
       -- an update's reading turn
       module _ (page : List ℕ) (w : ℕ) (job : Updates i w (c .job)) (count : c .turns ≡ t) where
@@ -153,14 +168,16 @@ module _ (n : ℕ) (o : Order) (H : ℕ → State Process) (z : 0 < n) (eight : 
               laws-stay n o H e i p L E refl,
               turn-reads refl
                   (record {
-                    sized = sized-read o n (suc e) (position n t) read-now before (Ready w (f .instant) (t + 1)) (over n (f .words) (before .view)) (T .sized);
+                    sized = sized-read o n (suc e) (position n t) read-now before (Ready w (f .instant) (t + 1))
+                        (over n (f .words) (before .view)) (T .sized);
                     tie = (
                       job,
                       ap suc count ∙ sym (add-one t),
                       record {
-                        good = subst (λ v. Good (pageAt (figure3 o) n H) (c .number) (suc e) v (f .instant))
-                            (sym (take-over-all n (f .words) (before .view) (good-full good))) (good-later (pageAt (figure3 o) n H) (omega arith) good);
-                        few = let q = scanning-patient n o (registerAt n o H) S il L in omega arith;
+                        good = subst (λ v. Good pages (c .number) (suc e) v (f .instant))
+                            (sym (take-over-all n (f .words) (before .view) (good-full good)))
+                            (good-later pages (omega arith) good);
+                        few = let q = scanning-patient n o registers S il L in omega arith;
                         own = S .attempts .own ∙ sym (ap (λ r. r .seq) (registers-stay n o H e i p L E refl i));
                       },
                     );
@@ -168,15 +185,17 @@ module _ (n : ℕ) (o : Order) (H : ℕ → State Process) (z : 0 < n) (eight : 
             )
 
         update-turn-works : Worked (update-result finds)
-        update-turn-works E = update-found finds (scanned-now (registers-stay n o H e i (update-result finds .state) L E (update-register finds))) E
+        update-turn-works E =
+            update-found finds (scanned-now (registers-stay n o H e i (update-result finds .state) L E (update-register finds))) E
 
     -- the writing turn
-    module _ (page : List ℕ) (w at t : ℕ) (job : Updates i w (c .job)) (count : c .turns ≡ t) (K : Keeps n o H e i (c .number) t before at) where
+    module _ (page : List ℕ) (w at t : ℕ) (job : Updates i w (c .job)) (count : c .turns ≡ t)
+        (K : Keeps n o H e i (c .number) t before at) where
       abbrev after-write : Process
       after-write = begin n Idle (withRegister (written n w at before) before)
 
       wrote : trimmed n (after-write .register)
-          ≡ record { word = w; seq = registerAt n o H i e .seq + 1; view = take n (before .view); at = at }
+          ≡ record { word = w; seq = registers i e .seq + 1; view = take n (before .view); at = at }
       unfolding begin written
       wrote =
           trimmed-laid n (record { word = w; seq = before .register .seq + 1; view = before .view; at = at }) (before .register)

@@ -59,7 +59,8 @@ module _ (n : ℕ) (o : Order) (H : ℕ → State Process) where
     not-overdue p (Ready w at k) none t = absurd t
     not-overdue p (Ready w at k) (some c) t = le-ltb (mostReads n) k (t .2 .few)
 
-    sound : (c : Option Call) → Ties n o H e i (processAt (figure3 o) H i e) c → unsound (mostReads n) e (processAt (figure3 o) H i e) ≡ false
+    sound : (c : Option Call) → Ties n o H e i (processAt (figure3 o) H i e) c →
+        unsound (mostReads n) e (processAt (figure3 o) H i e) ≡ false
     unfolding unsound
     sound c T =
         let p = processAt (figure3 o) H i e in
@@ -82,7 +83,7 @@ module _ (n : ℕ) (o : Order) (H : ℕ → State Process) where
         laws-start = first-laws eight;
         tie-start = λ i b. record { sized = record { firsts = omega arith; seconds = omega arith; marks = omega arith }; tie = tt };
         idle = λ e i p c T. tie-idle e i p (p .task) c (T .tie);
-        patient = λ e i c b L T. tie-patient e i b L (processAt (figure3 o) H i e) (processAt (figure3 o) H i e .task) c (T .tie);
+        patient = λ e i c b L T. let p = processAt (figure3 o) H i e in tie-patient e i b L p (p .task) c (T .tie);
         sound = λ e i c b L T. sound e i b L c T;
         waits = λ e i p L E j c b h T. others-tied n o H e i p L E j c h T;
         calls = λ e i j own L T E. call-works n o H z eight e i L j own T E;
@@ -118,4 +119,5 @@ opening-opens o s k q = machine.opening-opens (figure3 o) s k q
 pub demand3-after-opening : (s : State Process) (n : ℕ) → refusal (figure3 ascending) s (openFor n) ≡ none → (items : List Item) →
     Holds (method ascending n) (step (method ascending n) s (openFor n) .state) (started n n 0) items
 demand3-after-opening s n q items =
-    machine.demand3-after-opening (figure3 ascending) s n (λ z eight H. works n ascending H (ascending-permutes n) z eight) q items
+    machine.demand3-after-opening (figure3 ascending) s n
+    (λ z eight H. works n ascending H (ascending-permutes n) z eight) q items

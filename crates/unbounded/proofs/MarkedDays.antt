@@ -12,5 +12,5 @@ use Rattle.unbounded.specs.Days.{mostReads, unsound}
 use Rattle.unbounded.specs.MarkedDays.{played, markedDays}
 
 pub marked-days-follow : map played markedDays ≡ map (λ d. d .expected) markedDays
-unfolding markedDays step verdict laid readInto cleared pageOf differs isMoved withMoved lends begin position placeAt firstAfter secondAfter endAfter decision marksAfter afterRead foundBy written turned mostReads isFull unsound refusal advance openedBy calledBy turnBy accept
+unfolding markedDays step isFull refusal openedBy advance calledBy turnBy accept verdict isMoved withMoved lends laid readInto cleared pageOf differs begin position placeAt firstAfter secondAfter endAfter decision marksAfter afterRead foundBy written turned mostReads unsound
 marked-days-follow = refl

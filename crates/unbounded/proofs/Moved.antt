@@ -14,7 +14,9 @@ module _ (o : Order) (a b : List Register) (j : ℕ) where
   pub differs-false : differs o a b j ≡ false → collectedAt o a j .seq ≡ collectedAt o b j .seq
   unfolding differs
   differs-false h =
-      eqb-true (collectedAt o a j .seq) (collectedAt o b j .seq) (not-false (eqb (collectedAt o a j .seq) (collectedAt o b j .seq)) h)
+      let x = collectedAt o a j .seq in
+      let y = collectedAt o b j .seq in
+      eqb-true x y (not-false (eqb x y) h)
 
   pub differs-true : differs o a b j ≡ true → collectedAt o a j .seq ≢ collectedAt o b j .seq
   unfolding differs

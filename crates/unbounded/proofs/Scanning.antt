@@ -20,15 +20,19 @@ use Rattle.unbounded.specs.Turns.{position, placeAt, firstAfter, secondA
 use Rattle.unbounded.specs.Days.{mostReads}
 use Rattle.unbounded.proofs.Places.{trimmed}
 use Rattle.unbounded.proofs.Reading.{decision-waits, decision-falls}
-use Rattle.unbounded.proofs.Scans.{Permutes, trace, Collecting, Complete, Reads, collecting-starts, collecting-waits, collecting-reads, collected, unwritten, stirred}
+use Rattle.unbounded.proofs.Scans.{Permutes, trace, Collecting, Complete, Reads}
+use Rattle.unbounded.proofs.Scans.{collecting-starts, collecting-waits, collecting-reads, collected, unwritten, stirred}
 
 module _ (n : ℕ) (o : Order) (R : ℕ → ℕ → Register) where
+  abbrev seqs : ℕ → ℕ → ℕ
+  seqs j t = R j t .seq
+
   -- process i, whose scan began at instant s, after t turns, at instant e: its collects a and c, the end of the first, its marks
   pub record Scanning (i s : ℕ) (a c : List Register) (end : ℕ) (ms : List Bool) (t e : ℕ) : Type 0 where
     pub failed : ℕ
     pub pos : ℕ
     pub begun : ℕ
-    pub attempts : Attempts n (2 * n) (λ j u. R j u .seq) i s (isMoved ms) failed pos begun t e
+    pub attempts : Attempts n (2 * n) seqs i s (isMoved ms) failed pos begun t e
     pub collects : Collecting n o R begun e a c end pos
 
   pub scanning-starts : (i s : ℕ) (a c : List Register) (end : ℕ) → 0 < n → Scanning i s a c end noneMoved 0 s
@@ -37,7 +41,7 @@ module _ (n : ℕ) (o : Order) (R : ℕ → ℕ → Register) where
         failed = 0;
         pos = 0;
         begun = s;
-        attempts = attempts-start n (2 * n) (λ j u. R j u .seq) i s s (isMoved noneMoved) (omega arith) (omega arith) none-moved refl;
+        attempts = attempts-start n (2 * n) seqs i s s (isMoved noneMoved) (omega arith) (omega arith) none-moved refl;
         collects = collecting-starts n o R s a c end z;
       }
 
@@ -49,24 +53,24 @@ module _ (n : ℕ) (o : Order) (R : ℕ → ℕ → Register) where
           failed = S .failed;
           pos = S .pos;
           begun = S .begun;
-          attempts = attempts-wait n (2 * n) (λ j u. R j u .seq) (S .attempts) q;
+          attempts = attempts-wait n (2 * n) seqs (S .attempts) q;
           collects = collecting-waits n o R (S .collects);
         }
 
     pub position-is : position n t ≡ S .pos
     unfolding position
-    position-is = attempts-position n (2 * n) (λ j u. R j u .seq) (S .attempts)
+    position-is = attempts-position n (2 * n) seqs (S .attempts)
 
     module _ (il : i < n) (L : (j : ℕ) → j < n → History (trace R) n j e) where
       pub scanning-patient : t < mostReads n
       unfolding mostReads
       scanning-patient =
-          let p = attempts-patient n (2 * n) (λ j u. R j u .seq) (S .attempts) il
+          let p = attempts-patient n (2 * n) seqs (S .attempts) il
           (λ j l. L j l .counted .rises (S .begun) e (S .attempts .until) (omega arith)) in
           omega arith
 
-      -- its own reading turn, numbered e + 1, leaves the collects a′ and c′, the end of the first and the marks: if it finds no page
-      -- the scan goes on, and if it does the page is good
+      -- its own reading turn, numbered e + 1, leaves the collects a′ and c′, the end of the first and the marks: if it finds no
+      -- page the scan goes on, and if it does the page is good
       abbrev pub Scanned : (a′ c′ : List Register) (end′ : ℕ) (ms′ : List Bool) → Option (Found ℕ) → Type 0
       Scanned a′ c′ end′ ms′ none = Scanning i s a′ c′ end′ ms′ (t + 1) (suc e)
       Scanned a′ c′ end′ ms′ (some f) = Good (pageIn (trace R) n) s e (f .words) (f .instant)
@@ -99,7 +103,13 @@ module _ (n : ℕ) (o : Order) (R : ℕ → ℕ → Register) where
           ends C clean g = g
           ends C (lent j) g = g
           ends C again g =
-              record { failed = suc (S .failed); pos = 0; begun = suc e; attempts = g; collects = collecting-starts n o R (suc e) a′ c′ end′ (omega arith) }
+              record {
+                failed = suc (S .failed);
+                pos = 0;
+                begun = suc e;
+                attempts = g;
+                collects = collecting-starts n o R (suc e) a′ c′ end′ (omega arith);
+              }
 
           go : Reads n o R (S .begun) e a c end r (S .pos) → Leaves (decision o n (S .pos) a′ c′ ms)
           go (inl w) =
@@ -109,7 +119,7 @@ module _ (n : ℕ) (o : Order) (R : ℕ → ℕ → Register) where
                 failed = S .failed;
                 pos = S .pos + 1;
                 begun = S .begun;
-                attempts = attempts-go n (2 * n) (λ j u. R j u .seq) (S .attempts) l (quiet i);
+                attempts = attempts-go n (2 * n) seqs (S .attempts) l (quiet i);
                 collects = w .1;
               })
           go (inr w) =

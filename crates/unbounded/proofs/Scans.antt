@@ -15,7 +15,8 @@ use Rattle.unbounded.specs.Registers.{noRegister, value, Order, collecte
 use Rattle.unbounded.specs.Turns.{placeAt, firstAfter, secondAfter, endAfter}
 use Rattle.unbounded.proofs.Places.{trimmed, read-into-same, read-into-other}
 use Rattle.unbounded.proofs.Moved.{differs-false, differs-true}
-use Rattle.unbounded.proofs.Reading.{place-first, place-second, first-reads, first-waits, second-reads, second-waits, end-reads, end-waits}
+use Rattle.unbounded.proofs.Reading.{place-first, place-second, end-reads, end-waits}
+use Rattle.unbounded.proofs.Reading.{first-reads, first-waits, second-reads, second-waits}
 
 -- an order of reading n registers: a permutation of the first n numbers, with its inverse
 pub record Permutes (n : ℕ) (o : Order) : Type 0 where
@@ -59,7 +60,8 @@ module _ (n : ℕ) (o : Order) (R : ℕ → ℕ → Register) where
   collecting-starts b a c end h = in-first 0 h (λ k l. absurd (omega arith))
 
   -- another process's event
-  pub collecting-waits : {b e : ℕ} {a c : List Register} {end pos : ℕ} → Collecting b e a c end pos → Collecting b (suc e) a c end pos
+  pub collecting-waits : {b e : ℕ} {a c : List Register} {end pos : ℕ} → Collecting b e a c end pos →
+      Collecting b (suc e) a c end pos
   collecting-waits {e = e} (in-first p l h) = in-first p l (λ k m. held-later (trace R) (suc e) (omega arith) (h k m))
   collecting-waits {e = e} (in-second q l m f s) =
       in-second q l (omega arith) f (λ k g. held-later (trace R) (suc e) (omega arith) (s k g))

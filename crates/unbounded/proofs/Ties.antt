@@ -29,6 +29,12 @@ module _ (n : ℕ) (o : Order) (H : ℕ → State Process) where
   abbrev pub registerAt : (j t : ℕ) → Register
   registerAt j t = trimmed n (processAt (figure3 o) H j t .register)
 
+  abbrev records : (i t : ℕ) → Process
+  records i t = processAt (figure3 o) H i t
+
+  abbrev pages : ℕ → List ℕ
+  pages = pageAt (figure3 o) n H
+
   -- what holds of the instants up to e
   abbrev pub Laws : ℕ → Type 0
   Laws e = (j : ℕ) → j < n → History (trace registerAt) n j e
@@ -39,7 +45,7 @@ module _ (n : ℕ) (o : Order) (H : ℕ → State Process) where
 
   -- the update of process i, called at instant s, is ready: it keeps a good page, and its register is as it was at its call
   pub record Keeps (e i s t : ℕ) (p : Process) (at : ℕ) : Type 0 where
-    pub good : Good (pageAt (figure3 o) n H) s e (take n (p .view)) at
+    pub good : Good pages s e (take n (p .view)) at
     pub few : t ≤ mostReads n
     pub own : registerAt i s .seq ≡ registerAt i e .seq
 
@@ -61,14 +67,14 @@ module _ (n : ℕ) (o : Order) (H : ℕ → State Process) where
 
   module _ (e i : ℕ) (p : Process) (L : Laws e) (E : Event (figure3 o) n H e i p) where
     -- the other processes
-    pub others-tied : (j : ℕ) (c : Option Call) → j ≢ i → Ties e j (processAt (figure3 o) H j e) c →
-        Ties (suc e) j (processAt (figure3 o) H j e) c
-    others-tied j c h T = record { sized = T .sized; tie = go (processAt (figure3 o) H j e .task) c (T .tie) }
+    pub others-tied : (j : ℕ) (c : Option Call) → j ≢ i → Ties e j (records j e) c →
+        Ties (suc e) j (records j e) c
+    others-tied j c h T = record { sized = T .sized; tie = go (records j e .task) c (T .tie) }
       where
         still : registerAt j (suc e) .seq ≡ registerAt j e .seq
         still = ap (λ q. q .register .seq) (E .other j h)
 
-        go : (k : Task) (b : Option Call) → Tie e j (processAt (figure3 o) H j e) k b → Tie (suc e) j (processAt (figure3 o) H j e) k b
+        go : (k : Task) (b : Option Call) → Tie e j (records j e) k b → Tie (suc e) j (records j e) k b
         go Idle none t = tt
         go Idle (some b) t = t
         go (Scan k) none t = t
@@ -79,7 +85,7 @@ module _ (n : ℕ) (o : Order) (H : ℕ → State Process) where
         go (Ready w at k) (some b) t = (
           t .0,
           t .1,
-          record { good = good-later (pageAt (figure3 o) n H) (omega arith) (t .2 .good); few = t .2 .few; own = t .2 .own ∙ sym still },
+          record { good = good-later pages (omega arith) (t .2 .good); few = t .2 .few; own = t .2 .own ∙ sym still },
         )
 
     -- a register that is not written
@@ -87,18 +93,20 @@ module _ (n : ℕ) (o : Order) (H : ℕ → State Process) where
     register-stays j b q = history-stays (trace registerAt) n j e (L j b) q (ap (λ r. r .seq) q) (λ u h. h)
 
     -- an event that writes no register
-    module _ (same : p .register ≡ processAt (figure3 o) H i e .register) where
+    module _ (same : p .register ≡ records i e .register) where
       pub registers-stay : (j : ℕ) → registerAt j (suc e) ≡ registerAt j e
       registers-stay j =
           by-cases (ℕ-discrete j i)
-          (λ x. ap (λ k. registerAt k (suc e)) x ∙ ap (λ q. trimmed n (q .register)) (E .own) ∙ ap (trimmed n) same ∙ ap (λ k. registerAt k e) (sym x))
+          (λ x.
+          ap (λ k. registerAt k (suc e)) x ∙ ap (λ q. trimmed n (q .register)) (E .own) ∙ ap (trimmed n) same
+          ∙ ap (λ k. registerAt k e) (sym x))
           (λ x. ap (λ q. trimmed n (q .register)) (E .other j x))
 
       pub laws-stay : Laws (suc e)
       laws-stay j b = register-stays j b (registers-stay j)
 
     -- the writing turn of an update called at instant s, with a good page
-    module _ (s w at : ℕ) (view : List ℕ) (good : Good (pageAt (figure3 o) n H) s e view at)
+    module _ (s w at : ℕ) (view : List ℕ) (good : Good pages s e view at)
         (own : registerAt i s .seq ≡ registerAt i e .seq)
         (wrote : trimmed n (p .register) ≡ record { word = w; seq = registerAt i e .seq + 1; view = view; at = at }) where
       pub laws-write : Laws (suc e)
@@ -112,5 +120,5 @@ module _ (n : ℕ) (o : Order) (H : ℕ → State Process) where
           own-history : History (trace registerAt) n i (suc e)
           own-history =
               history-writes (trace registerAt) n i e (L i (E .inside)) s
-              (subst (λ r. Good (pageAt (figure3 o) n H) s e (r .view) (r .at)) (sym now-holds) good) own
+              (subst (λ r. Good pages s e (r .view) (r .at)) (sym now-holds) good) own
               (ap (λ r. r .seq) now-holds ∙ add-one (registerAt i e .seq)) (λ u l. tt)
