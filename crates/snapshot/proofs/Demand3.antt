@@ -29,8 +29,8 @@ use Rattle.snapshot.proofs.Booleans.{or-neither, not-false}
 use Rattle.snapshot.proofs.Causes.{accepted-passes, Avoids, refused-avoids, refused-first}
 use Rattle.snapshot.proofs.Lists.{some-of-none, map-set, map-replicate, map-constant, list-is-each, each-cong}
 use Rattle.snapshot.proofs.Owed.{Owed, Deed, call-deed, read-deed, page-deed, write-deed, actor}
-use Rattle.snapshot.proofs.Fold.{Starts, holds}
-use Rattle.snapshot.proofs.Works.{Owns, noCall, processAt, pageAt, turnAt, Event, Works}
+use Rattle.snapshot.proofs.Fold.{holds}
+use Rattle.snapshot.proofs.Works.{Owns, processAt, pageAt, turnAt, Event, Works}
 use Rattle.snapshot.proofs.Works.{TurnDeed, turn-reads, turn-pages, turn-writes}
 
 -- ---- tests

@@ -10,6 +10,7 @@ use mathlib.Core.Bool.{Bool, true, false, cond, _||_, true≢false}
 use mathlib.Core.List.{List, [], _∷_, _++_, map}
 use lib.ListN.{length, getD, take, drop, set, replicate, length-append, length-drop, length-replicate, getD-replicate, List·getD-append}
 use lib.Seq.{take-at, take-all, getD-at, getD-take, ext-getD, drop-cons, set-at, length-take-le, append-snoc, take-suc, take-take}
+use Rattle.snapshot.proofs.Booleans.{or-neither}
 use Rattle.snapshot.specs.Lists.{over, eachFrom, each, firstFrom, firstBelow, someOf}
 
 -- ---- the first n places of a over those of b
@@ -114,16 +115,8 @@ some-of-none f (x ∷ l) z h = ap (λ b. b || someOf f l) (h 0 (omega arith)) �
 
 pub some-of-false : {A : Type 0} (f : A → Bool) (l : List A) (z : A) → someOf f l ≡ false → (i : ℕ) → i < length l → f (getD l i z) ≡ false
 some-of-false f [] z h i w = absurd (not-suc-le-zero w)
-some-of-false f (x ∷ l) z h zero w = go (f x) h
-  where
-    go : (b : Bool) → (b || someOf f l) ≡ false → b ≡ false
-    go true q = q
-    go false q = refl
-some-of-false f (x ∷ l) z h (suc i) w = some-of-false f l z (go (f x) h) i (omega arith)
-  where
-    go : (b : Bool) → (b || someOf f l) ≡ false → someOf f l ≡ false
-    go true q = absurd (true≢false q)
-    go false q = q
+some-of-false f (x ∷ l) z h zero w = or-neither (f x) (someOf f l) h .0
+some-of-false f (x ∷ l) z h (suc i) w = some-of-false f l z (or-neither (f x) (someOf f l) h .1) i (omega arith)
 
 -- ---- searches
 

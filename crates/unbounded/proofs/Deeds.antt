@@ -9,11 +9,10 @@ use mathlib.Core.Option.{Option, none, some}
 use lib.ListN.{length, take}
 use Rattle.snapshot.specs.Lists.{over}
 use Rattle.snapshot.specs.Marks.{Found}
-use Rattle.snapshot.specs.Tally.{Job, scan, update, Call, opens, gains}
+use Rattle.snapshot.specs.Tally.{Job, scan, update, Call, opens}
 use Rattle.snapshot.specs.Demand.{Result}
 use Rattle.snapshot.specs.Days.{State, readFrom}
-use Rattle.snapshot.specs.declared.Answer.{Answer}
-use Rattle.snapshot.specs.declared.Answer.the-variants.{Read, Written}
+use Rattle.snapshot.specs.declared.Answer.the-variants.{Written}
 use Rattle.snapshot.proofs.Lists.{length-each, take-over-all}
 use Rattle.snapshot.proofs.Views.{Good, good-later}
 use Rattle.snapshot.proofs.Works.{Owns, Updates, processAt, pageAt, turnAt, Event, TurnDeed, turn-reads, turn-pages, turn-writes}
