@@ -21,13 +21,13 @@ use Rattle.unbounded.specs.declared.Process.{Process}
 use Rattle.unbounded.specs.declared.Task.{Task}
 use Rattle.unbounded.specs.declared.Task.the-variants.{Idle, Scan, Update, Ready}
 use Rattle.unbounded.specs.Registers.{value, Order, cleared}
-use Rattle.unbounded.specs.Processes.{taskOf, begin}
+use Rattle.unbounded.specs.Processes.{taskOf, emptied, begin}
 use Rattle.unbounded.specs.Turns.{position, placeAt, reads, firstAfter, secondAfter, endAfter, decision, marksAfter}
-use Rattle.unbounded.specs.Turns.{afterRead, foundBy, scanTurn, updateTurn, written, withRegister, turned, turnedBy}
+use Rattle.unbounded.specs.Turns.{afterRead, foundBy, scanTurn, updateTurn, written, turned, turnedBy}
 use Rattle.unbounded.specs.Days.{figure3}
 use Rattle.unbounded.proofs.Places.{trimmed, trimmed-laid}
 use Rattle.unbounded.proofs.Scans.{Permutes}
-use Rattle.unbounded.proofs.Reading.{place-below, sized-begin, sized-read}
+use Rattle.unbounded.proofs.Reading.{place-below, sized-emptied, sized-begin, sized-read}
 use Rattle.unbounded.proofs.Scanning.{Scanned, scanning-starts, scanning-reads, scanning-patient, position-is}
 use Rattle.unbounded.proofs.Ties.{registerAt, Laws, Scans, Keeps, Tie, Ties, registers-stay, laws-stay, laws-write}
 
@@ -191,23 +191,21 @@ module _ (n : ℕ) (o : Order) (H : ℕ → State Process) (z : 0 < n) (eight : 
     module _ (page : List ℕ) (w at t : ℕ) (job : Updates i w (c .job)) (count : c .turns ≡ t)
         (K : Keeps n o H e i (c .number) t before at) where
       abbrev after-write : Process
-      after-write = begin n Idle (withRegister (written n w at before) before)
+      after-write = emptied n (written n w at before) Idle before
 
       wrote : trimmed n (after-write .register)
           ≡ record { word = w; seq = registers i e .seq + 1; view = take n (before .view); at = at }
-      unfolding begin written
+      unfolding written
       wrote =
           trimmed-laid n (record { word = w; seq = before .register .seq + 1; view = before .view; at = at }) (before .register)
           (good-full (K .good))
 
       write-works : Worked (record { state = after-write; answer = Written (t + 1); page = page })
-      unfolding begin
       write-works E = (
         laws-write n o H e i after-write L E (c .number) w at (take n (before .view)) (K .good) (K .own) wrote,
         turn-writes w (t + 1) job (add-one t ∙ ap suc (sym count)) (ap value wrote)
             (record {
-              sized = sized-begin n Idle (withRegister (written n w at before) before) eight
-                  (record { firsts = T .sized .firsts; seconds = T .sized .seconds; marks = T .sized .marks });
+              sized = sized-emptied n (written n w at before) Idle before eight (T .sized);
               tie = tt;
             }),
       )

@@ -6,11 +6,13 @@ use lib.ListN.{replicate}
 use Rattle.snapshot.specs.Lists.{over}
 use Rattle.snapshot.specs.Marks.{noneMoved}
 use Rattle.snapshot.specs.Tally.{Job, scan, update}
+use Rattle.unbounded.specs.declared.Register.{Register}
 use Rattle.unbounded.specs.declared.Process.{Process}
 use Rattle.unbounded.specs.declared.Task.{Task}
 use Rattle.unbounded.specs.declared.Task.the-variants.{Idle, Scan, Update, Ready}
 use Rattle.unbounded.specs.Registers.{noRegister, zeroRegister, cleared}
 
+-- no task
 abbrev pub isIdle : Task → Bool
 isIdle Idle = true
 isIdle (Scan t) = false
@@ -47,11 +49,12 @@ zeroProcess =
       moved = noneMoved;
     }
 
--- "A call, and the answer that ends a task, set the collected part, the marks and any kept view and its at to 0": p with task k
-unfoldable pub begin : ℕ → Task → Process → Process
-begin n k p =
+-- "A call, and the answer that ends a task, set the collected part, the marks and any kept view and its at to 0": p with
+-- register r and task k
+abbrev pub emptied : ℕ → Register → Task → Process → Process
+emptied n r k p =
     record {
-      register = p .register;
+      register = r;
       task = k;
       first = cleared n (p .first);
       second = cleared n (p .second);
@@ -59,3 +62,7 @@ begin n k p =
       view = over n (replicate 8 0) (p .view);
       moved = noneMoved;
     }
+
+-- p with task k and the register that it has
+unfoldable pub begin : ℕ → Task → Process → Process
+begin n k p = emptied n (p .register) k p

@@ -14,7 +14,7 @@ use Rattle.unbounded.specs.declared.Process.{Process}
 use Rattle.unbounded.specs.declared.Task.{Task}
 use Rattle.unbounded.specs.declared.Task.the-variants.{Idle, Scan, Update, Ready}
 use Rattle.unbounded.specs.Registers.{Order, collectedAt, viewed, laid, readInto, pageOf, differs}
-use Rattle.unbounded.specs.Processes.{begin}
+use Rattle.unbounded.specs.Processes.{emptied, begin}
 
 -- ---- the read of a turn
 
@@ -66,25 +66,20 @@ found o n b end (some again) = none
 
 -- ---- the record after a reading turn
 
--- p with task k, view v and marks ms, once register r is read at position pos by the turn numbered now
-abbrev pub readWith : ℕ → ℕ → ℕ → Register → Process → Task → List ℕ → List Bool → Process
-readWith n now pos r p k v ms =
-    record {
-      register = p .register;
-      task = k;
-      first = firstAfter n pos r (p .first);
-      second = secondAfter n pos r (p .second);
-      «first_end» = endAfter n pos now (p .«first_end»);
-      view = v;
-      moved = ms;
-    }
-
--- p with task k and view v after that read
+-- p with task k and view v, once register r is read at position pos by the turn numbered now
 unfoldable pub afterRead : Order → ℕ → ℕ → ℕ → Register → Process → Task → List ℕ → Process
 afterRead o n now pos r p k v =
     let a = firstAfter n pos r (p .first) in
     let b = secondAfter n pos r (p .second) in
-    readWith n now pos r p k v (marksAfter o n a b (p .moved) (decision o n pos a b (p .moved)))
+    record {
+      register = p .register;
+      task = k;
+      first = a;
+      second = b;
+      «first_end» = endAfter n pos now (p .«first_end»);
+      view = v;
+      moved = marksAfter o n a b (p .moved) (decision o n pos a b (p .moved));
+    }
 
 -- the page that the read at position pos finds, if it finds one
 unfoldable pub foundBy : Order → ℕ → ℕ → ℕ → Register → Process → Option (Found ℕ)
@@ -98,11 +93,7 @@ abbrev pub scanTurn : Order → ℕ → ℕ → Register → List ℕ → Proces
 scanTurn o n now r page p t none =
     record { state = afterRead o n now (position n t) r p (Scan (t + 1)) (p .view); answer = Read; page = page }
 scanTurn o n now r page p t (some f) =
-    record {
-      state = begin n Idle p;
-      answer = Page (f .lender) (f .instant) (t + 1);
-      page = over n (f .words) page;
-    }
+    record { state = begin n Idle p; answer = Page (f .lender) (f .instant) (t + 1); page = over n (f .words) page }
 
 -- an update's reading turn: it keeps the page that it finds, for its writing turn (5)
 abbrev pub updateTurn : Order → ℕ → ℕ → Register → List ℕ → Process → ℕ → ℕ → Option (Found ℕ) → Result Process
@@ -119,26 +110,13 @@ updateTurn o n now r page p w t (some f) =
 unfoldable pub written : ℕ → ℕ → ℕ → Process → Register
 written n w at p = laid n (record { word = w; seq = p .register .seq + 1; view = p .view; at = at }) (p .register)
 
--- p with another register
-abbrev pub withRegister : Register → Process → Process
-withRegister r p =
-    record {
-      register = r;
-      task = p .task;
-      first = p .first;
-      second = p .second;
-      «first_end» = p .«first_end»;
-      view = p .view;
-      moved = p .moved;
-    }
-
 -- the turn numbered now of a process p whose task is k, with the page list lent; an idle one is refused before it comes here
 abbrev pub turnedBy : Order → ℕ → ℕ → Register → List ℕ → Process → Task → Result Process
 turnedBy o n now r page p Idle = record { state = p; answer = Read; page = page }
 turnedBy o n now r page p (Scan t) = scanTurn o n now r page p t (foundBy o n now (position n t) r p)
 turnedBy o n now r page p (Update w t) = updateTurn o n now r page p w t (foundBy o n now (position n t) r p)
 turnedBy o n now r page p (Ready w at t) =
-    record { state = begin n Idle (withRegister (written n w at p) p); answer = Written (t + 1); page = page }
+    record { state = emptied n (written n w at p) Idle p; answer = Written (t + 1); page = page }
 
 unfoldable pub turned : Order → ℕ → ℕ → Register → List ℕ → Process → Result Process
 turned o n now r page p = turnedBy o n now r page p (p .task)
