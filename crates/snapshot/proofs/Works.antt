@@ -24,6 +24,7 @@ Owns i (update register w) = register - 1 ≡ i
 abbrev pub Updates : ℕ → (w : ℕ) → Job → Type 0
 Updates i w j = (register : ℕ) × (register - 1 ≡ i) × (j ≡ update register w)
 
+-- whether no call is open
 abbrev pub noCall : Option Call → Bool
 noCall none = true
 noCall (some c) = false
