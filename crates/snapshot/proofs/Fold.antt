@@ -13,7 +13,7 @@ use Rattle.snapshot.specs.declared.Refusal.{Refusal}
 use Rattle.snapshot.specs.declared.Answer.{Answer}
 use Rattle.snapshot.specs.Tally.{Seen, Call, Tally, started, callOf, instant, advanced, opens, gains, puts, putsIf, tallied}
 use Rattle.snapshot.specs.Demand.{Method, Result, admit, step, Among, Fits, PageFits, WrittenFits, IsUpdate, Waiting, Patient, Holds}
-use Rattle.snapshot.proofs.Owed.{Owed, Outcome, called, stepped, scanned, updated, actor}
+use Rattle.snapshot.proofs.Owed.{Owed, Deed, call-deed, read-deed, page-deed, write-deed, actor}
 
 -- ---- the history of a list
 
@@ -64,13 +64,13 @@ module _ (M : Method) (O : Owed M) (H : ℕ → M .State) where
     pub instants : length (t .instants) ≡ suc (t .event)
 
   agree-patient : (t : Tally (M .Value)) → Agree t → Patient (M .most) t
-  agree-patient t a i c h = by-cases (decLt i (M .processes)) inside outside
+  agree-patient t a i c h = by-cases (decLt i (M .processes)) within beyond
     where
-      inside : i < M .processes → c .turns < M .most (c .job)
-      inside l = O .patient H (t .event) i c l (a .past) (subst (λ o. O .Tied H (t .event) i o) h (a .tied i l))
+      within : i < M .processes → c .turns < M .most (c .job)
+      within l = O .patient H (t .event) i c l (a .past) (subst (λ o. O .Tied H (t .event) i o) h (a .tied i l))
 
-      outside : ¬ (i < M .processes) → c .turns < M .most (c .job)
-      outside l =
+      beyond : ¬ (i < M .processes) → c .turns < M .most (c .job)
+      beyond l =
           let long : length (t .calls) ≤ i = omega (arith, a .processes) in
           absurd (Option·none-ne-some c (sym (List·getD-eq-default (t .calls) none long) ∙ h))
 
@@ -118,20 +118,20 @@ module _ (M : Method) (O : Owed M) (H : ℕ → M .State) where
       (e : M .event (H (suc (t .event))) ≡ suc (t .event)) where
     fits-and-agrees : {x : Seen} {r : Answer} →
         ((i : ℕ) → i < M .processes → i ≢ actor x → (b : Option Call) → O .Tied H (t .event) i b → O .Tied H (suc (t .event)) i b) →
-        Outcome M (O .Tied) H (t .event) (λ i. getD (t .calls) i none) shown x r →
+        Deed M (O .Tied) H (t .event) (λ i. getD (t .calls) i none) shown x r →
         Fits (M .processes) (M .most) t x shown r
         × Agree (tallied (M .stored) t x r)
         × (tallied (M .stored) t x r .event ≡ suc (t .event))
-    fits-and-agrees others (called d j m q quiet own) =
+    fits-and-agrees others (call-deed d j m q quiet own) =
         ((m, q), advanced-agrees t a (t .words) d (some (opens (suc (t .event)) j)) m p e others own (a .now ∙ sym quiet), refl)
-    fits-and-agrees others (stepped d c m q quiet own) = (
+    fits-and-agrees others (read-deed d c m q quiet own) = (
       (m, subst (λ o. Waiting o) (sym q) tt),
       advanced-agrees t a (t .words) d (Option·map gains (callOf t d)) m p e others
           (subst (λ o. O .Tied H (suc (t .event)) (d - 1) (Option·map gains o)) (sym q) own)
           (a .now ∙ sym quiet),
       refl,
     )
-    fits-and-agrees others (scanned d c lender at turns m q job count ws late early quiet own) =
+    fits-and-agrees others (page-deed d c lender at turns m q job count ws late early quiet own) =
         let few = agree-patient t a (d - 1) c q in (
           (
             m,
@@ -141,7 +141,7 @@ module _ (M : Method) (O : Owed M) (H : ℕ → M .State) where
           advanced-agrees t a (t .words) d none m p e others own (a .now ∙ sym quiet),
           refl,
         )
-    fits-and-agrees others (updated d c register w turns m q job count ws own) =
+    fits-and-agrees others (write-deed d c register w turns m q job count ws own) =
         let few = agree-patient t a (d - 1) c q in (
           (
             m,

@@ -8,8 +8,9 @@ use mathlib.Core.Path.{_≡_, refl, sym, ap, ap₂, _∙_}
 use mathlib.Core.Logic.{by-cases}
 use mathlib.Core.Bool.{Bool, true, false, cond, _||_, true≢false}
 use mathlib.Core.List.{List, [], _∷_, _++_, map}
-use lib.ListN.{length, getD, take, drop, set, replicate, length-append, length-drop, List·getD-append}
-use lib.Seq.{take-at, getD-at, getD-take, ext-getD, drop-cons, set-at, length-take-le, append-snoc, take-suc, take-take}
+use lib.ListN.{length, getD, take, drop, set, replicate, length-append, length-drop, length-replicate, getD-replicate, List·getD-append}
+use lib.Seq.{take-at, take-all, getD-at, getD-take, ext-getD, drop-cons, set-at, length-take-le, append-snoc, take-suc, take-take}
+use Rattle.snapshot.proofs.Booleans.{or-neither}
 use Rattle.snapshot.specs.Lists.{over, eachFrom, each, firstFrom, firstBelow, someOf}
 
 -- ---- the first n places of a over those of b
@@ -17,6 +18,9 @@ use Rattle.snapshot.specs.Lists.{over, eachFrom, each, firstFrom, firstB
 module _ {A : Type 0} (n : ℕ) (a b : List A) where
   pub take-over : length (take n a) ≡ n → take n (over n a b) ≡ take n a
   take-over l = take-at (take n a) (drop n b) n l
+
+  pub take-over-all : length a ≡ n → take n (over n a b) ≡ a
+  take-over-all l = take-over (length-take-le n a (omega arith)) ∙ take-all n a (omega arith)
 
   pub length-over : length (take n a) ≡ n → n ≤ length b → length (over n a b) ≡ length b
   length-over l m = simp (length-append, length-drop) (omega arith)
@@ -66,6 +70,13 @@ each-from-cong {A} f g (suc k) j h =
 pub each-cong : {A : Type 0} (n : ℕ) (f g : ℕ → A) → ((i : ℕ) → i < n → f i ≡ g i) → each n f ≡ each n g
 each-cong n f g h = each-from-cong f g n 0 (λ i l. h i (omega arith))
 
+pub each-replicate : {A : Type 0} (n : ℕ) (f : ℕ → A) (a : A) → ((i : ℕ) → i < n → f i ≡ a) → each n f ≡ replicate n a
+each-replicate n f a h =
+    ext-getD a (each n f) (replicate n a) (length-each n f ∙ sym (length-replicate n a))
+    (λ i l.
+    let m : i < n = omega (arith, length-each n f) in
+    getD-each n f i a m ∙ h i m ∙ sym (getD-replicate n i a a m))
+
 -- a list of n elements is what stands at each index
 pub list-is-each : {A : Type 0} (n : ℕ) (z : A) (l : List A) → length l ≡ n → l ≡ each n (λ i. getD l i z)
 list-is-each n z l q =
@@ -104,16 +115,8 @@ some-of-none f (x ∷ l) z h = ap (λ b. b || someOf f l) (h 0 (omega arith)) �
 
 pub some-of-false : {A : Type 0} (f : A → Bool) (l : List A) (z : A) → someOf f l ≡ false → (i : ℕ) → i < length l → f (getD l i z) ≡ false
 some-of-false f [] z h i w = absurd (not-suc-le-zero w)
-some-of-false f (x ∷ l) z h zero w = go (f x) h
-  where
-    go : (b : Bool) → (b || someOf f l) ≡ false → b ≡ false
-    go true q = q
-    go false q = refl
-some-of-false f (x ∷ l) z h (suc i) w = some-of-false f l z (go (f x) h) i (omega arith)
-  where
-    go : (b : Bool) → (b || someOf f l) ≡ false → someOf f l ≡ false
-    go true q = absurd (true≢false q)
-    go false q = q
+some-of-false f (x ∷ l) z h zero w = or-neither (f x) (someOf f l) h .0
+some-of-false f (x ∷ l) z h (suc i) w = some-of-false f l z (or-neither (f x) (someOf f l) h .1) i (omega arith)
 
 -- ---- searches
 

@@ -23,18 +23,18 @@ module _ (M : Method) (Tied : (ℕ → M .State) → ℕ → ℕ → Option Call
     Quiet = M .words (H (suc e)) ≡ M .words (H e)
 
     -- what event e + 1 was for the process d that made it, by what the tally sees and the answer
-    pub data Outcome : Seen → Answer → Type 0 where
-      called : (d : ℕ) (j : Job) → Among (M .processes) d → open-call (d - 1) ≡ none → Quiet →
-          Tied H (suc e) (d - 1) (some (opens (suc e) j)) → Outcome (call d j) Called
-      stepped : (d : ℕ) (c : Call) → Among (M .processes) d → open-call (d - 1) ≡ some c → Quiet →
-          Tied H (suc e) (d - 1) (some (gains c)) → Outcome (turn d) Read
-      scanned : (d : ℕ) (c : Call) (lender at turns : ℕ) → Among (M .processes) d → open-call (d - 1) ≡ some c →
+    pub data Deed : Seen → Answer → Type 0 where
+      call-deed : (d : ℕ) (j : Job) → Among (M .processes) d → open-call (d - 1) ≡ none → Quiet →
+          Tied H (suc e) (d - 1) (some (opens (suc e) j)) → Deed (call d j) Called
+      read-deed : (d : ℕ) (c : Call) → Among (M .processes) d → open-call (d - 1) ≡ some c → Quiet →
+          Tied H (suc e) (d - 1) (some (gains c)) → Deed (turn d) Read
+      page-deed : (d : ℕ) (c : Call) (lender at turns : ℕ) → Among (M .processes) d → open-call (d - 1) ≡ some c →
           c .job ≡ scan → turns ≡ suc (c .turns) → ws ≡ M .words (H at) → c .number < at → at ≤ e → Quiet →
-          Tied H (suc e) (d - 1) none → Outcome (turn d) (Page lender at turns)
-      updated : (d : ℕ) (c : Call) (register w turns : ℕ) → Among (M .processes) d → open-call (d - 1) ≡ some c →
+          Tied H (suc e) (d - 1) none → Deed (turn d) (Page lender at turns)
+      write-deed : (d : ℕ) (c : Call) (register w turns : ℕ) → Among (M .processes) d → open-call (d - 1) ≡ some c →
           c .job ≡ update register w → turns ≡ suc (c .turns) →
           M .words (H (suc e)) ≡ set (M .words (H e)) (register - 1) (M .stored (suc e) w) →
-          Tied H (suc e) (d - 1) none → Outcome (turn d) (Written turns)
+          Tied H (suc e) (d - 1) none → Deed (turn d) (Written turns)
 
 pub record Owed (M : Method) : Type 1 where
   -- what holds of the instants up to e
@@ -52,4 +52,4 @@ pub record Owed (M : Method) : Type 1 where
       Past H (suc e)
       × (M .event (H (suc e)) ≡ suc e)
       × ((i : ℕ) → i < M .processes → i ≢ actor (M .sees x) → (c : Option Call) → Tied H e i c → Tied H (suc e) i c)
-      × Outcome M Tied H e open-call (M .shown (M .accept (H e) x .page)) (M .sees x) (M .accept (H e) x .answer)
+      × Deed M Tied H e open-call (M .shown (M .accept (H e) x .page)) (M .sees x) (M .accept (H e) x .answer)

@@ -27,7 +27,7 @@ pub record Method : Type 1 where
   pub accept : State → Item → Result State
   -- what the tally sees of an item, and the page list that the item lends
   pub sees : Item → Seen
-  pub lent : Item → List ℕ
+  pub pageLent : Item → List ℕ
   -- what stands in a register, as pages show it; what it is once event e has written a word; and what a page list shows
   pub Value : Type 0
   pub stored : ℕ → ℕ → Value
@@ -45,7 +45,7 @@ module _ (M : Method) where
   -- "Day, records and page remain unchanged" on a refusal; otherwise the deed
   abbrev pub admit : M .State → M .Item → Option Refusal → Result (M .State)
   admit s x none = M .accept s x
-  admit s x (some k) = record { state = s; answer = Refused k; page = M .lent x }
+  admit s x (some k) = record { state = s; answer = Refused k; page = M .pageLent x }
 
   unfoldable pub step : M .State → M .Item → Result (M .State)
   step s x = admit s x (M .refusal s x)

@@ -3,6 +3,8 @@ pub mod Requests
 pub mod Refusals
 pub mod Tally
 pub mod Demand
+pub mod Days
 pub mod Replies
 pub mod Lists
 pub mod Verdict
+pub mod Marks

@@ -7,30 +7,33 @@ use native.Mathlib.Decide.{ℕ-discrete}
 use lib.Arith.{digits-mod}
 use mathlib.Core.Path.{_≡_, refl, sym, ap, ap₂, _∙_, subst}
 use mathlib.Core.Logic.{by-cases, _≢_}
-use mathlib.Core.Bool.{Bool, true, false, cond, _&&_}
+use mathlib.Core.Bool.{Bool, true, false, cond, _&&_, and-false}
 use mathlib.Core.List.{List, map}
 use mathlib.Core.Option.{Option, none, some}
 use lib.ListN.{length, getD, take, replicate, length-map, length-replicate}
-use lib.Seq.{length-take-le, take-all}
+use lib.Seq.{length-take-le}
 use lib.Dec.{eqb}
 use borrow.Author.Tests.{eq-eqb, ne-eqb}
 use Rattle.snapshot.specs.Lists.{over, each, everyFrom}
+use Rattle.snapshot.specs.Tally.{Job, scan, update}
+use Rattle.snapshot.specs.Marks.{isMoved, withMoved, lends, markFrom, passed, Found}
 use Rattle.snapshot.specs.Demand.{Result}
 use Rattle.snapshot.specs.declared.Answer.the-variants.{Read, Page, Written}
-use Rattle.snapshot.proofs.Lists.{each-cong, take-over, getD-over, getD-map-below, take-replicate}
+use Rattle.snapshot.proofs.Booleans.{bool-cases}
+use Rattle.snapshot.proofs.Lists.{each-cong, take-over-all, getD-over, getD-map-below, take-replicate}
+use Rattle.snapshot.proofs.Marks.{length-with-moved, moved-same, moved-other, none-moved, lends-moved, lends-marked, unmarked}
 use Rattle.snapshot.specs.Verdict.{Verdict, clean, lent, again, verdict}
 use Rattle.snapshot.proofs.DoubleCollect.{Ends, nobody, lender, goes-on, verdict-ends}
 use Rattle.unbounded.specs.declared.Register.{Register}
 use Rattle.unbounded.specs.declared.Process.{Process}
 use Rattle.unbounded.specs.declared.Task.{Task}
 use Rattle.unbounded.specs.declared.Task.the-variants.{Scan, Update, Ready}
-use Rattle.unbounded.specs.Registers.{noRegister, zeroRegister, value, viewed, Order, collectedAt, shown, differs, lends, isMoved, withMoved, laid, readInto, cleared}
-use Rattle.unbounded.specs.Processes.{begin}
-use Rattle.unbounded.specs.Turns.{position, placeAt, reads, firstAfter, secondAfter, endAfter, markFrom, passed, marksAfter, Found, found, afterRead, foundBy, scanTurn, updateTurn, written, turnedBy, turned}
-use Rattle.unbounded.specs.Figure3.{Triple, Array, assigned, Variables, Procedure, write, return, collect, search, rounds, scan, update, zeroTriple, triple, turnsOf, mark, Holds, After, Does}
-use Rattle.unbounded.proofs.Places.{shown-long, trimmed, read-into-same, read-into-other, trimmed-laid}
-use Rattle.unbounded.proofs.Marks.{none-moved, moved-same, moved-other}
-use Rattle.unbounded.proofs.Moved.{differs-false, differs-true, lends-differs, lends-moved, unmarked}
+use Rattle.unbounded.specs.Registers.{noRegister, zeroRegister, value, viewed, Order, collectedAt, pageOf, differs, laid, readInto, cleared}
+use Rattle.unbounded.specs.Processes.{turnsOf, taskOf, begin}
+use Rattle.unbounded.specs.Turns.{position, placeAt, reads, firstAfter, secondAfter, endAfter, marksAfter, found, afterRead, foundBy, scanTurn, updateTurn, written, turnedBy, turned}
+use Rattle.unbounded.specs.Figure3.{Triple, Array, assigned, Variables, Procedure, write, return, collect, search, whileTrue, scanProcedure, updateProcedure, zeroTriple, triple, mark, Remembers, After, Does}
+use Rattle.unbounded.proofs.Places.{page-of-long, trimmed, read-into-same, read-into-other, trimmed-laid}
+use Rattle.unbounded.proofs.Moved.{differs-false, differs-true}
 use Rattle.unbounded.proofs.Reading.{place-first, place-second, first-reads, first-waits, second-reads, second-waits, decision-waits, decision-falls, Sized, sized-begin, sized-read}
 use Rattle.unbounded.proofs.Scans.{Permutes}
 
@@ -61,9 +64,9 @@ module _ (n : ℕ) (o : Order) (P : Permutes n o) where
       ∙ sym (ap (triple n) (read-into-other n r p rs (o .place j) (λ w. q (sym (P .register-place j b) ∙ ap (o .register) w)))))
 
   -- line 5: the words of the second collect
-  shown-each : (x : Array Triple) (rs : List Register) → Stands x rs → each n (λ j. x j .content) ≡ shown o n rs
-  unfolding shown
-  shown-each x rs h = each-cong n (λ j. x j .content) (λ j. value (collectedAt o rs j)) (λ j l. ap (λ t. t .content) (h j l))
+  page-each : (x : Array Triple) (rs : List Register) → Stands x rs → each n (λ j. x j .content) ≡ pageOf o n rs
+  unfolding pageOf
+  page-each x rs h = each-cong n (λ j. x j .content) (λ j. value (collectedAt o rs j)) (λ j l. ap (λ t. t .content) (h j l))
 
 -- ---- lines 4 to 10
 
@@ -90,15 +93,7 @@ module _ (n : ℕ) (o : Order) (a b : List Register) (x y : Array Triple)
       by-cases (ℕ-discrete i j)
       (λ q. ap (λ t. _&&_ t (everyFrom (λ i. eqb (x i .seq) (y i .seq)) k (suc j)))
       (ap (λ u. eqb (x u .seq) (y u .seq)) (sym q) ∙ other-seq i w d))
-      (λ q. ap (λ t. _&&_ (eqb (x j .seq) (y j .seq)) t) (one-differs k (suc j) i (omega arith) (omega arith) w d) ∙ and-no (eqb (x j .seq) (y j .seq)))
-    where
-      and-no : (t : Bool) → _&&_ t false ≡ false
-      and-no true = refl
-      and-no false = refl
-
-  bool-cases : {C : Type 0} (t : Bool) → (t ≡ true → C) → (t ≡ false → C) → C
-  bool-cases true f g = f refl
-  bool-cases false f g = g refl
+      (λ q. ap (λ t. _&&_ (eqb (x j .seq) (y j .seq)) t) (one-differs k (suc j) i (omega arith) (omega arith) w d) ∙ and-false (eqb (x j .seq) (y j .seq)))
 
   -- one turn of the loop, where process j does not differ, or differs and is not marked
   search-passes : (k j : ℕ) (moved : Array ℕ) → j < n → differs o a b j ≡ false →
@@ -129,19 +124,19 @@ module _ (n : ℕ) (o : Order) (a b : List Register) (x y : Array Triple)
       ∙ ap (λ t. cond t (finish (suc j) (y j .view)) (search k (suc j) x y (assigned moved j (moved j + 1)) go finish)) (eq-eqb (moved j) 1 q)
 
   -- line 9: the first that lends ends the search
-  search-lends : (ms : List Bool) (w : ℕ) → w < n → lends o a b ms w ≡ true → ((i : ℕ) → i < w → lends o a b ms i ≡ false) →
+  search-lends : (ms : List Bool) (w : ℕ) → w < n → lends (differs o a b) ms w ≡ true → ((i : ℕ) → i < w → lends (differs o a b) ms i ≡ false) →
       (k j : ℕ) (moved : Array ℕ) → j ≤ w → w < j + k → ((i : ℕ) → j ≤ i → i < n → moved i ≡ mark (isMoved ms i)) →
       search k j x y moved go finish ≡ finish (suc w) (y w .view)
   search-lends ms w wl lend before zero j moved l m h = absurd (omega arith)
   search-lends ms w wl lend before (suc k) j moved l m h =
       by-cases (ℕ-discrete j w)
       (λ q.
-      search-sees-marked k j moved (omega arith) (ap (differs o a b) q ∙ lends-differs o a b ms w lend)
-      (h j (omega arith) (omega arith) ∙ ap mark (ap (isMoved ms) q ∙ lends-moved o a b ms w lend))
+      search-sees-marked k j moved (omega arith) (ap (differs o a b) q ∙ lends-moved (differs o a b) ms w lend)
+      (h j (omega arith) (omega arith) ∙ ap mark (ap (isMoved ms) q ∙ lends-marked (differs o a b) ms w lend))
       ∙ ap (λ i. finish (suc i) (y i .view)) q)
       (λ q. bool-cases (differs o a b j)
       (λ d.
-      search-sees-new k j moved (omega arith) d (h j (omega arith) (omega arith) ∙ ap mark (unmarked o a b ms j d (before j (omega arith))))
+      search-sees-new k j moved (omega arith) d (h j (omega arith) (omega arith) ∙ ap mark (unmarked (differs o a b) ms j d (before j (omega arith))))
       ∙ search-lends ms w wl lend before k (suc j) (assigned moved j (moved j + 1)) (omega arith) (omega arith)
       (λ i u v. assigned-other moved i j (moved j + 1) (λ e. omega arith) ∙ h i (omega arith) v))
       (λ d. search-passes k j moved (omega arith) d ∙ search-lends ms w wl lend before k (suc j) moved (omega arith) (omega arith) (λ i u v. h i (omega arith) v)))
@@ -157,7 +152,7 @@ module _ (n : ℕ) (o : Order) (a b : List Register) (x y : Array Triple)
       (λ d. passes d (search-marks k (suc j) ms moved (omega arith) w h (λ i v m. u i (omega arith) m)))
     where
       long : n ≤ length ms → n ≤ length (withMoved ms j)
-      long z = let q = Rattle.unbounded.proofs.Marks.length-with-moved ms j in omega arith
+      long z = let q = length-with-moved ms j in omega arith
 
       fresh : differs o a b j ≡ true → (i : ℕ) → i < n → assigned moved j (moved j + 1) i ≡ mark (isMoved (withMoved ms j) i)
       fresh d i m =
@@ -190,61 +185,49 @@ module _ (n : ℕ) (o : Order) (a b : List Register) (x y : Array Triple)
 
 -- ---- turns
 
--- a task that reads: a scan, or an update of a word
-data Kind : Type 0 where
-  page : Kind
-  entry : ℕ → Kind
+turns-of : (K : Job) (t : ℕ) → turnsOf (taskOf K t) ≡ t
+turns-of scan t = refl
+turns-of (update register w) t = refl
 
-abbrev taskOf : Kind → ℕ → Task
-taskOf page t = Scan t
-taskOf (entry w) t = Update w t
-
-turns-of : (K : Kind) (t : ℕ) → turnsOf (taskOf K t) ≡ t
-turns-of page t = refl
-turns-of (entry w) t = refl
-
-reads-of : (o : Order) (n : ℕ) (K : Kind) (t pos place : ℕ) → position n t ≡ pos → placeAt n pos ≡ place → reads o n (taskOf K t) ≡ some (o .register place)
-reads-of o n page t pos place q r = ap {B = Option ℕ} (λ k. some (o .register k)) (ap (placeAt n) q ∙ r)
-reads-of o n (entry w) t pos place q r = ap {B = Option ℕ} (λ k. some (o .register k)) (ap (placeAt n) q ∙ r)
+reads-of : (o : Order) (n : ℕ) (K : Job) (t pos place : ℕ) → position n t ≡ pos → placeAt n pos ≡ place → reads o n (taskOf K t) ≡ some (o .register place)
+reads-of o n scan t pos place q r = ap {B = Option ℕ} (λ k. some (o .register k)) (ap (placeAt n) q ∙ r)
+reads-of o n (update register w) t pos place q r = ap {B = Option ℕ} (λ k. some (o .register k)) (ap (placeAt n) q ∙ r)
 
 -- what the procedure does with the words that its scan returns, by a process whose register's seq is s
-abbrev finishOf : Kind → ℕ → ℕ → List ℕ → Procedure
-finishOf page s from words = return from words
-finishOf (entry w) s from words = write (record { content = w; seq = s + 1; view = words })
+abbrev finishOf : Job → ℕ → ℕ → List ℕ → Procedure
+finishOf scan s from words = return from words
+finishOf (update register w) s from words = write (record { content = w; seq = s + 1; view = words })
 
 module _ (n : ℕ) (o : Order) (now : ℕ) (r : Register) (pg : List ℕ) (p : Process) where
-  abbrev readTurn : ℕ → Option Found → Kind → Result Process
-  readTurn t f page = scanTurn o n now r pg p t f
-  readTurn t f (entry w) = updateTurn o n now r pg p w t f
+  abbrev readTurn : ℕ → Option (Found ℕ) → Job → Result Process
+  readTurn t f scan = scanTurn o n now r pg p t f
+  readTurn t f (update register w) = updateTurn o n now r pg p w t f
 
-  turned-by : (t : ℕ) (K : Kind) → turnedBy o n now r pg p (taskOf K t) ≡ readTurn t (foundBy o n now (position n t) r p) K
-  turned-by t page = refl
-  turned-by t (entry w) = refl
+  turned-by : (t : ℕ) (K : Job) → turnedBy o n now r pg p (taskOf K t) ≡ readTurn t (foundBy o n now (position n t) r p) K
+  turned-by t scan = refl
+  turned-by t (update register w) = refl
 
-  turned-reads : (K : Kind) (t pos : ℕ) (f : Option Found) → p .task ≡ taskOf K t → position n t ≡ pos → foundBy o n now pos r p ≡ f →
+  turned-reads : (K : Job) (t pos : ℕ) (f : Option (Found ℕ)) → p .task ≡ taskOf K t → position n t ≡ pos → foundBy o n now pos r p ≡ f →
       turned o n now r pg p ≡ readTurn t f K
   unfolding turned
   turned-reads K t pos f task at q =
       ap (λ k. turnedBy o n now r pg p k) task ∙ turned-by t K ∙ ap (λ g. readTurn t g K) (ap (λ k. foundBy o n now k r p) at ∙ q)
 
   -- a turn that finds nothing goes on
-  abbrev onward : (t pos : ℕ) → Kind → Result Process
+  abbrev onward : (t pos : ℕ) → Job → Result Process
   onward t pos K = record { state = afterRead o n now pos r p (taskOf K (t + 1)) (p .view); answer = Read; page = pg }
 
-  turned-onward : (K : Kind) (t pos : ℕ) → p .task ≡ taskOf K t → position n t ≡ pos → foundBy o n now pos r p ≡ none →
+  turned-onward : (K : Job) (t pos : ℕ) → p .task ≡ taskOf K t → position n t ≡ pos → foundBy o n now pos r p ≡ none →
       turned o n now r pg p ≡ onward t pos K
   turned-onward K t pos task at q = turned-reads K t pos none task at q ∙ by K
     where
-      by : (K : Kind) → readTurn t none K ≡ onward t pos K
-      by page = ap (λ k. onward t k page) at
-      by (entry w) = ap (λ k. onward t k (entry w)) at
+      by : (K : Job) → readTurn t none K ≡ onward t pos K
+      by scan = ap (λ k. onward t k scan) at
+      by (update register w) = ap (λ k. onward t k (update register w)) at
 
 -- ---- a turn that finds a page
 
 -- a page of n words kept as a view, and written
-take-words : (n : ℕ) (ws v : List ℕ) → length ws ≡ n → take n (over n ws v) ≡ ws
-take-words n ws v q = take-over n ws v (length-take-le n ws (omega arith)) ∙ take-all n ws (omega arith)
-
 triple-written : (n w at s : ℕ) (p : Process) (ws : List ℕ) → p .register .seq ≡ s → take n (p .view) ≡ ws → length ws ≡ n →
     triple n (written n w at p) ≡ record { content = w; seq = s + 1; view = ws }
 unfolding written
@@ -253,14 +236,14 @@ triple-written n w at s p ws q v l =
     (trimmed-laid n (record { word = w; seq = p .register .seq + 1; view = p .view; at = at }) (p .register) (ap length v ∙ l))
     ∙ ap₂ (λ k u. record { content = w; seq = k + 1; view = u }) q v
 
-module _ (n : ℕ) (o : Order) (now : ℕ) (r : Register) (pg : List ℕ) (p : Process) (t s : ℕ) (f : Found) (own : p .register .seq ≡ s)
+module _ (n : ℕ) (o : Order) (now : ℕ) (r : Register) (pg : List ℕ) (p : Process) (t s : ℕ) (f : Found ℕ) (own : p .register .seq ≡ s)
     (full : length (f .words) ≡ n) where
   -- the procedure returns to its caller, or goes on to its write
-  found-after : (K : Kind) → let q = finishOf K s (f .lender) (f .words) in
+  found-after : (K : Job) → let q = finishOf K s (f .lender) (f .words) in
       After o n (Does o n q (suc t)) (suc t) p pg (readTurn n o now r pg p t (some f) K) q
   unfolding Does begin afterRead turned
-  found-after page = ((f .instant, ap (Page (f .lender) (f .instant)) (add-one t)), refl, refl)
-  found-after (entry w) = (
+  found-after scan = ((f .instant, ap (Page (f .lender) (f .instant)) (add-one t)), refl, refl)
+  found-after (update register w) = (
     refl,
     refl,
     refl,
@@ -271,7 +254,7 @@ module _ (n : ℕ) (o : Order) (now : ℕ) (r : Register) (pg : List ℕ) (p : P
         ap Written (ap (λ k. k + 1) (add-one t) ∙ add-one (suc t)),
         refl,
         triple-written n w (f .instant) s (afterRead o n now (position n t) r p (Ready w (f .instant) (t + 1)) (over n (f .words) (p .view)))
-            (f .words) own (take-words n (f .words) (p .view) full) full,
+            (f .words) own (take-over-all n (f .words) (p .view) full) full,
       )),
     ),
   )
@@ -283,26 +266,26 @@ unfolding afterRead
 register-kept o n now pos r p k v = refl
 
 -- what is left of the rounds is a read, or nothing
-after-rounds : (o : Order) (n : ℕ) → 0 < n → (F : ℕ → List ℕ → Procedure) (k : ℕ) (moved : Array ℕ) (x y : Array Triple) (t : ℕ) (p : Process) (pg : List ℕ)
-    (p′ : Process) → p′ .register ≡ p .register → Does o n (rounds o n F k moved x y) t p′ →
-    After o n (Does o n (rounds o n F k moved x y) t) t p pg (record { state = p′; answer = Read; page = pg }) (rounds o n F k moved x y)
-unfolding rounds collect
-after-rounds o zero z F k moved x y t p pg p′ q does = absurd (omega arith)
-after-rounds o (suc n) z F zero moved x y t p pg p′ q does = tt
-after-rounds o (suc n) z F (suc k) moved x y t p pg p′ q does = (refl, refl, q, does)
+after-while : (o : Order) (n : ℕ) → 0 < n → (F : ℕ → List ℕ → Procedure) (k : ℕ) (moved : Array ℕ) (x y : Array Triple) (t : ℕ) (p : Process) (pg : List ℕ)
+    (p′ : Process) → p′ .register ≡ p .register → Does o n (whileTrue o n F k moved x y) t p′ →
+    After o n (Does o n (whileTrue o n F k moved x y) t) t p pg (record { state = p′; answer = Read; page = pg }) (whileTrue o n F k moved x y)
+unfolding whileTrue collect
+after-while o zero z F k moved x y t p pg p′ q does = absurd (omega arith)
+after-while o (suc n) z F zero moved x y t p pg p′ q does = tt
+after-while o (suc n) z F (suc k) moved x y t p pg p′ q does = (refl, refl, q, does)
 
-module _ (n : ℕ) (o : Order) (P : Permutes n o) (z : 0 < n) (eight : n ≤ 8) (K : Kind) (s : ℕ) where
+module _ (n : ℕ) (o : Order) (P : Permutes n o) (z : 0 < n) (eight : n ≤ 8) (K : Job) (s : ℕ) where
   -- lines 4 to 10 of a round after which k more may come
   abbrev closing : ℕ → Array ℕ → Array Triple → Array Triple → Procedure
   closing k moved x y =
       cond (everyFrom (λ j. eqb (x j .seq) (y j .seq)) n 0)
       (finishOf K s 0 (each n (λ j. y j .content)))
-      (search n 0 x y moved (λ mv. rounds o n (finishOf K s) k mv x y) (finishOf K s))
+      (search n 0 x y moved (λ mv. whileTrue o n (finishOf K s) k mv x y) (finishOf K s))
 
-  -- process p after t turns holds the variables v
+  -- process p after t turns remembers the variables v
   record At (p : Process) (t : ℕ) (v : Variables) : Type 0 where
     sized : Sized p
-    holds : Holds o n v p
+    remembers : Remembers o n v p
     -- the views in the second collect have their n words
     wide : (j : ℕ) → j < n → length (v .b j .view) ≡ n
     task : p .task ≡ taskOf K t
@@ -337,9 +320,9 @@ module _ (n : ℕ) (o : Order) (P : Permutes n o) (z : 0 < n) (eight : n ≤ 8) 
         let c = secondAfter n pos r (p .second) in
         record {
           sized = sized-read o n now pos r p (taskOf K (t + 1)) (p .view) (A .sized);
-          holds =
+          remembers =
               record {
-                moved = λ j l. A .holds .moved j l
+                moved = λ j l. A .remembers .moved j l
                     ∙ sym (ap (λ v. mark (isMoved (markFrom (differs o a c) (passed n v) 0 (p .moved)) j)) (decision-waits n o pos a c (p .moved) h));
                 a = hx;
                 b = hy;
@@ -353,17 +336,17 @@ module _ (n : ℕ) (o : Order) (P : Permutes n o) (z : 0 < n) (eight : n ≤ 8) 
     at-first q l =
         at-onward q (assigned x (o .register q) (triple n r)) y (λ w. omega arith)
         (subst (λ rs. Stands n o P (assigned x (o .register q) (triple n r)) rs) (sym (first-reads n r q (p .first) l))
-        (reads-stand n o P x (p .first) r q l (omega (arith, A .sized .firsts)) (view-full r full) (A .holds .a)))
-        (subst (λ rs. Stands n o P y rs) (sym (second-waits n r q (p .second) l)) (A .holds .b))
+        (reads-stand n o P x (p .first) r q l (omega (arith, A .sized .firsts)) (view-full r full) (A .remembers .a)))
+        (subst (λ rs. Stands n o P y rs) (sym (second-waits n r q (p .second) l)) (A .remembers .b))
         (A .wide)
 
     stands-second : (q : ℕ) → q < n → Stands n o P (assigned y (o .register q) (triple n r)) (secondAfter n (n + q) r (p .second))
     stands-second q l =
         subst (λ rs. Stands n o P (assigned y (o .register q) (triple n r)) rs) (sym (second-reads n r q (p .second)))
-        (reads-stand n o P y (p .second) r q l (omega (arith, A .sized .seconds)) (view-full r full) (A .holds .b))
+        (reads-stand n o P y (p .second) r q l (omega (arith, A .sized .seconds)) (view-full r full) (A .remembers .b))
 
     stands-first : (q : ℕ) → Stands n o P x (firstAfter n (n + q) r (p .first))
-    stands-first q = subst (λ rs. Stands n o P x rs) (sym (first-waits n r (n + q) (p .first) (omega arith))) (A .holds .a)
+    stands-first q = subst (λ rs. Stands n o P x rs) (sym (first-waits n r (n + q) (p .first) (omega arith))) (A .remembers .a)
 
     wide-second : (q j : ℕ) → j < n → length (assigned y (o .register q) (triple n r) j .view) ≡ n
     wide-second q j l =
@@ -399,7 +382,7 @@ module _ (n : ℕ) (o : Order) (P : Permutes n o) (z : 0 < n) (eight : n ≤ 8) 
       end′ : ℕ
       end′ = endAfter n (n + q) now (p .«first_end»)
 
-      falls : (v : Verdict) → verdict n (differs o a′ c′) (lends o a′ c′ (p .moved)) ≡ v → foundBy o n now (n + q) r p ≡ found o n c′ end′ (some v)
+      falls : (v : Verdict) → verdict n (differs o a′ c′) (lends (differs o a′ c′) (p .moved)) ≡ v → foundBy o n now (n + q) r p ≡ found o n c′ end′ (some v)
       unfolding foundBy a′ c′ end′
       falls v h = ap (found o n c′ end′) (decision-falls n o (n + q) a′ c′ (p .moved) (omega arith) ∙ ap {B = Option Verdict} some h)
 
@@ -413,7 +396,7 @@ module _ (n : ℕ) (o : Order) (P : Permutes n o) (z : 0 < n) (eight : n ≤ 8) 
       at = position-of m (n + q) t count (omega arith)
 
       -- a page was found, and the procedure finishes with it
-      finishes : (k : ℕ) (f : Found) → foundBy o n now (n + q) r p ≡ some f → length (f .words) ≡ n →
+      finishes : (k : ℕ) (f : Found ℕ) → foundBy o n now (n + q) r p ≡ some f → length (f .words) ≡ n →
           lines k ≡ finishOf K s (f .lender) (f .words) → Ending k
       unfolding Ending
       finishes k f found-f wide-f same =
@@ -423,24 +406,24 @@ module _ (n : ℕ) (o : Order) (P : Permutes n o) (z : 0 < n) (eight : n ≤ 8) 
           (found-after n o now r pg p t s f (A .seq) wide-f K))
 
       -- no page was found, and the procedure goes on with the marks m′
-      continues : (k : ℕ) (m′ : Array ℕ) → foundBy o n now (n + q) r p ≡ none → lines k ≡ rounds o n (finishOf K s) k m′ x y′ →
-          Does o n (rounds o n (finishOf K s) k m′ x y′) (suc t) (afterRead o n now (n + q) r p (taskOf K (t + 1)) (p .view)) → Ending k
+      continues : (k : ℕ) (m′ : Array ℕ) → foundBy o n now (n + q) r p ≡ none → lines k ≡ whileTrue o n (finishOf K s) k m′ x y′ →
+          Does o n (whileTrue o n (finishOf K s) k m′ x y′) (suc t) (afterRead o n now (n + q) r p (taskOf K (t + 1)) (p .view)) → Ending k
       unfolding Ending
       continues k m′ found-none same does =
           subst (λ Q. After o n (Does o n Q (suc t)) (suc t) p pg (turned o n now r pg p) Q) (sym same)
-          (subst (λ X. After o n (Does o n (rounds o n (finishOf K s) k m′ x y′) (suc t)) (suc t) p pg X (rounds o n (finishOf K s) k m′ x y′))
+          (subst (λ X. After o n (Does o n (whileTrue o n (finishOf K s) k m′ x y′) (suc t)) (suc t) p pg X (whileTrue o n (finishOf K s) k m′ x y′))
           (sym (turned-onward n o now r pg p K t (n + q) (A .task) at found-none))
-          (after-rounds o n z (finishOf K s) k m′ x y′ (suc t) p pg (afterRead o n now (n + q) r p (taskOf K (t + 1)) (p .view)) (register-kept o n now (n + q) r p (taskOf K (t + 1)) (p .view)) does))
+          (after-while o n z (finishOf K s) k m′ x y′ (suc t) p pg (afterRead o n now (n + q) r p (taskOf K (t + 1)) (p .view)) (register-kept o n now (n + q) r p (taskOf K (t + 1)) (p .view)) does))
 
       -- the record after a double collect without a page, with the marks that the search left
-      at-again : (m′ : Array ℕ) → verdict n (differs o a′ c′) (lends o a′ c′ (p .moved)) ≡ again →
+      at-again : (m′ : Array ℕ) → verdict n (differs o a′ c′) (lends (differs o a′ c′) (p .moved)) ≡ again →
           ((i : ℕ) → i < n → m′ i ≡ mark (isMoved (markFrom (differs o a′ c′) n 0 (p .moved)) i)) →
           At (afterRead o n now (n + q) r p (taskOf K (t + 1)) (p .view)) (suc t) (record { moved = m′; a = x; b = y′ })
       unfolding afterRead marksAfter a′ c′ y′
       at-again m′ e h =
           record {
             sized = sized-read o n now (n + q) r p (taskOf K (t + 1)) (p .view) (A .sized);
-            holds =
+            remembers =
                 record {
                   moved = λ i l. h i l
                       ∙ sym (ap (λ v. mark (isMoved (markFrom (differs o a′ c′) (passed n v) 0 (p .moved)) i))
@@ -453,55 +436,55 @@ module _ (n : ℕ) (o : Order) (P : Permutes n o) (z : 0 < n) (eight : n ≤ 8) 
             seq = A .seq;
           }
 
-      ends : (k : ℕ) → ((moved : Array ℕ) (p : Process) → At p (suc t) (record { moved = moved; a = x; b = y′ }) → Does o n (rounds o n (finishOf K s) k moved x y′) (suc t) p) →
-          (v : Verdict) → verdict n (differs o a′ c′) (lends o a′ c′ (p .moved)) ≡ v → Ends n (differs o a′ c′) (lends o a′ c′ (p .moved)) v → Ending k
+      ends : (k : ℕ) → ((moved : Array ℕ) (p : Process) → At p (suc t) (record { moved = moved; a = x; b = y′ }) → Does o n (whileTrue o n (finishOf K s) k moved x y′) (suc t) p) →
+          (v : Verdict) → verdict n (differs o a′ c′) (lends (differs o a′ c′) (p .moved)) ≡ v → Ends n (differs o a′ c′) (lends (differs o a′ c′) (p .moved)) v → Ending k
       unfolding lines y′ a′ c′
       ends k rest _ e (nobody h) =
-          finishes k (record { words = shown o n c′; instant = end′; lender = 0 }) (falls clean e) (shown-long o n c′)
-          (ap (λ b. cond b (finishOf K s 0 (each n (λ j. y′ j .content))) (search n 0 x y′ moved (λ moved. rounds o n (finishOf K s) k moved x y′) (finishOf K s)))
-          (all-same n o a′ c′ x y′ (stands-first q) (stands-second q (omega arith)) (finishOf K s) (λ moved. rounds o n (finishOf K s) k moved x y′) n 0 (omega arith) h)
-          ∙ ap (finishOf K s 0) (shown-each n o P y′ c′ (stands-second q (omega arith))))
+          finishes k (record { words = pageOf o n c′; instant = end′; lender = 0 }) (falls clean e) (page-of-long o n c′)
+          (ap (λ b. cond b (finishOf K s 0 (each n (λ j. y′ j .content))) (search n 0 x y′ moved (λ moved. whileTrue o n (finishOf K s) k moved x y′) (finishOf K s)))
+          (all-same n o a′ c′ x y′ (stands-first q) (stands-second q (omega arith)) (finishOf K s) (λ moved. whileTrue o n (finishOf K s) k moved x y′) n 0 (omega arith) h)
+          ∙ ap (finishOf K s 0) (page-each n o P y′ c′ (stands-second q (omega arith))))
       ends k rest _ e (lender j l h first) =
           finishes k (record { words = viewed n (collectedAt o c′ j); instant = collectedAt o c′ j .at; lender = j + 1 }) (falls (lent j) e)
           (ap (λ u. length (u .view)) (sym (stands-second q (omega arith) j l)) ∙ wide-second q j l)
-          (ap (λ b. cond b (finishOf K s 0 (each n (λ j. y′ j .content))) (search n 0 x y′ moved (λ moved. rounds o n (finishOf K s) k moved x y′) (finishOf K s)))
-          (one-differs n o a′ c′ x y′ (stands-first q) (stands-second q (omega arith)) (finishOf K s) (λ moved. rounds o n (finishOf K s) k moved x y′) n 0 j (omega arith) (omega arith) l (lends-differs o a′ c′ (p .moved) j h))
-          ∙ search-lends n o a′ c′ x y′ (stands-first q) (stands-second q (omega arith)) (finishOf K s) (λ moved. rounds o n (finishOf K s) k moved x y′)
-          (p .moved) j l h first n 0 moved (omega arith) (omega arith) (λ i u w. A .holds .moved i w)
+          (ap (λ b. cond b (finishOf K s 0 (each n (λ j. y′ j .content))) (search n 0 x y′ moved (λ moved. whileTrue o n (finishOf K s) k moved x y′) (finishOf K s)))
+          (one-differs n o a′ c′ x y′ (stands-first q) (stands-second q (omega arith)) (finishOf K s) (λ moved. whileTrue o n (finishOf K s) k moved x y′) n 0 j (omega arith) (omega arith) l (lends-moved (differs o a′ c′) (p .moved) j h))
+          ∙ search-lends n o a′ c′ x y′ (stands-first q) (stands-second q (omega arith)) (finishOf K s) (λ moved. whileTrue o n (finishOf K s) k moved x y′)
+          (p .moved) j l h first n 0 moved (omega arith) (omega arith) (λ i u w. A .remembers .moved i w)
           ∙ ap₂ (finishOf K s) (sym (add-one j)) (ap (λ u. u .view) (stands-second q (omega arith) j l)))
       ends k rest _ e (goes-on j l d h) =
-          let G : Array ℕ → Procedure = λ mv. rounds o n (finishOf K s) k mv x y′ in
+          let G : Array ℕ → Procedure = λ mv. whileTrue o n (finishOf K s) k mv x y′ in
           let mk =
           search-marks n o a′ c′ x y′ (stands-first q) (stands-second q (omega arith)) (finishOf K s) G n 0 (p .moved) moved (omega arith)
-          (omega (arith, A .sized .marks)) (A .holds .moved) (λ i u w dd. unmarked o a′ c′ (p .moved) i dd (h i w)) in
+          (omega (arith, A .sized .marks)) (A .remembers .moved) (λ i u w dd. unmarked (differs o a′ c′) (p .moved) i dd (h i w)) in
           continues k (mk .0) (falls again e)
           (ap (λ b. cond b (finishOf K s 0 (each n (λ j. y′ j .content))) (search n 0 x y′ moved G (finishOf K s)))
           (one-differs n o a′ c′ x y′ (stands-first q) (stands-second q (omega arith)) (finishOf K s) G n 0 j (omega arith) (omega arith) l d)
           ∙ mk .1)
           (rest (mk .0) (afterRead o n now (n + q) r p (taskOf K (t + 1)) (p .view)) (at-again (mk .0) e (mk .2)))
 
-      ending : (k : ℕ) → ((moved : Array ℕ) (p : Process) → At p (suc t) (record { moved = moved; a = x; b = y′ }) → Does o n (rounds o n (finishOf K s) k moved x y′) (suc t) p) → Ending k
+      ending : (k : ℕ) → ((moved : Array ℕ) (p : Process) → At p (suc t) (record { moved = moved; a = x; b = y′ }) → Does o n (whileTrue o n (finishOf K s) k moved x y′) (suc t) p) → Ending k
       ending k rest =
-          ends k rest (verdict n (differs o a′ c′) (lends o a′ c′ (p .moved))) refl (verdict-ends n (differs o a′ c′) (lends o a′ c′ (p .moved)))
+          ends k rest (verdict n (differs o a′ c′) (lends (differs o a′ c′) (p .moved))) refl (verdict-ends n (differs o a′ c′) (lends (differs o a′ c′) (p .moved)))
 
   -- ---- the whole procedure
 
   -- the second collect, with k + 1 registers to read, from place q on, in round m
   second-does : (f m k q : ℕ) → suc k + q ≡ n →
       ((t : ℕ) (moved : Array ℕ) (x y : Array Triple) (p : Process) → t ≡ suc m * (2 * n) → At p t (record { moved = moved; a = x; b = y }) →
-      Does o n (rounds o n (finishOf K s) f moved x y) t p) →
+      Does o n (whileTrue o n (finishOf K s) f moved x y) t p) →
       (t : ℕ) (moved : Array ℕ) (x y : Array Triple) (p : Process) → t ≡ m * (2 * n) + (n + q) → At p t (record { moved = moved; a = x; b = y }) →
       Does o n (collect o (suc k) q (λ b. record { moved = moved; a = x; b = b }) y (closing f moved x)) t p
   unfolding Does collect Ending lines y′
   second-does f m zero q l rest t moved x y p c A = (
-    A .holds,
+    A .remembers,
     ap turnsOf (A .task) ∙ turns-of K t,
     ap (reads o n) (A .task) ∙ reads-of o n K t (n + q) q (position-of m (n + q) t c (omega arith)) (place-second n q),
     (λ now r pg full. ending now r full p t moved x y A pg q m (omega arith) c f
         (λ mv p′ A′. rest (suc t) mv x (assigned y (o .register q) (triple n r)) p′ (omega arith) A′)),
   )
   second-does f m (suc k) q l rest t moved x y p c A = (
-    A .holds,
+    A .remembers,
     ap turnsOf (A .task) ∙ turns-of K t,
     ap (reads o n) (A .task) ∙ reads-of o n K t (n + q) q (position-of m (n + q) t c (omega arith)) (place-second n q),
     (λ now r pg full. onwards now r full p t moved x y A pg (n + q) (position-of m (n + q) t c (omega arith)) (λ w. omega arith)
@@ -516,12 +499,12 @@ module _ (n : ℕ) (o : Order) (P : Permutes n o) (z : 0 < n) (eight : n ≤ 8) 
 
   first-does : (f m k q : ℕ) → suc k + q ≡ n →
       ((t : ℕ) (moved : Array ℕ) (x y : Array Triple) (p : Process) → t ≡ suc m * (2 * n) → At p t (record { moved = moved; a = x; b = y }) →
-      Does o n (rounds o n (finishOf K s) f moved x y) t p) →
+      Does o n (whileTrue o n (finishOf K s) f moved x y) t p) →
       (t : ℕ) (moved : Array ℕ) (x y : Array Triple) (p : Process) → t ≡ m * (2 * n) + q → At p t (record { moved = moved; a = x; b = y }) →
       Does o n (collect o (suc k) q (λ a. record { moved = moved; a = a; b = y }) x (after-first f moved y)) t p
   unfolding Does collect
   first-does f m zero q l rest t moved x y p c A = (
-    A .holds,
+    A .remembers,
     ap turnsOf (A .task) ∙ turns-of K t,
     ap (reads o n) (A .task) ∙ reads-of o n K t q q (position-of m q t c (omega arith)) (place-first n q (omega arith)),
     (λ now r pg full.
@@ -537,7 +520,7 @@ module _ (n : ℕ) (o : Order) (P : Permutes n o) (z : 0 < n) (eight : n ≤ 8) 
       suc-is : suc zero + q ≡ n → suc q ≡ n
       suc-is h = omega arith
   first-does f m (suc k) q l rest t moved x y p c A = (
-    A .holds,
+    A .remembers,
     ap turnsOf (A .task) ∙ turns-of K t,
     ap (reads o n) (A .task) ∙ reads-of o n K t q q (position-of m q t c (omega arith)) (place-first n q (omega arith)),
     (λ now r pg full. onwards now r full p t moved x y A pg q (position-of m q t c (omega arith)) (λ w. omega arith)
@@ -547,13 +530,13 @@ module _ (n : ℕ) (o : Order) (P : Permutes n o) (z : 0 < n) (eight : n ≤ 8) 
   )
 
   -- every round, from its start on
-  rounds-do : (f m t : ℕ) (moved : Array ℕ) (x y : Array Triple) (p : Process) → t ≡ m * (2 * n) → At p t (record { moved = moved; a = x; b = y }) →
-      Does o n (rounds o n (finishOf K s) f moved x y) t p
-  unfolding Does rounds
-  rounds-do zero m t moved x y p c A = tt
-  rounds-do (suc f) m t moved x y p c A =
+  while-does : (f m t : ℕ) (moved : Array ℕ) (x y : Array Triple) (p : Process) → t ≡ m * (2 * n) → At p t (record { moved = moved; a = x; b = y }) →
+      Does o n (whileTrue o n (finishOf K s) f moved x y) t p
+  unfolding Does whileTrue
+  while-does zero m t moved x y p c A = tt
+  while-does (suc f) m t moved x y p c A =
       subst (λ k. Does o n (collect o k 0 (λ a. record { moved = moved; a = a; b = y }) x (after-first f moved y)) t p) (omega arith)
-      (first-does f m (n - 1) 0 (omega arith) (λ t′ mv x′ y′ p′ c′ A′. rounds-do f (suc m) t′ mv x′ y′ p′ c′ A′) t moved x y p (omega arith) A)
+      (first-does f m (n - 1) 0 (omega arith) (λ t′ mv x′ y′ p′ c′ A′. while-does f (suc m) t′ mv x′ y′ p′ c′ A′) t moved x y p (omega arith) A)
 
 -- ---- a call
 
@@ -566,7 +549,7 @@ cleared-stands n o P eight rs l j b =
     let zeros = map (laid n zeroRegister) rs in
     let long : length (take n zeros) ≡ n = length-take-le n zeros (let q = length-map rs (laid n zeroRegister) in omega arith) in
     sym
-    (ap (triple n) (getD-over n zeros rs i noRegister long (P .place-below j b) ∙ getD-map-below (laid n zeroRegister) rs i noRegister noRegister (below (P .place-below j b)))
+    (ap (triple n) (getD-over n zeros rs i noRegister long (P .place-within j b) ∙ getD-map-below (laid n zeroRegister) rs i noRegister noRegister (below (P .place-within j b)))
     ∙ zero-triple (getD rs i noRegister))
   where
     below : o .place j < n → o .place j < length rs
@@ -579,13 +562,13 @@ cleared-stands n o P eight rs l j b =
         ∙ ap (λ v. record { content = 0; seq = 0; view = v }) (take-replicate n 8 0 eight)
 
 module _ (n : ℕ) (o : Order) (P : Permutes n o) (z : 0 < n) (eight : n ≤ 8) (p : Process) (sized : Sized p) where
-  called-at : (K : Kind) → At n o P z eight K (p .register .seq) (begin n (taskOf K 0) p) 0
+  called-at : (K : Job) → At n o P z eight K (p .register .seq) (begin n (taskOf K 0) p) 0
       (record { moved = λ j. 0; a = λ j. zeroTriple n; b = λ j. zeroTriple n })
   unfolding begin
   called-at K =
       record {
         sized = sized-begin n (taskOf K 0) p eight sized;
-        holds =
+        remembers =
             record {
               moved = λ j l. sym (ap mark (none-moved j));
               a = cleared-stands n o P eight (p .first) (sized .firsts);
@@ -596,18 +579,18 @@ module _ (n : ℕ) (o : Order) (P : Permutes n o) (z : 0 < n) (eight : n ≤ 8) 
         seq = refl;
       }
 
-  scan-does : (k : ℕ) → Does o n (scan o n return k) 0 (begin n (Scan 0) p)
-  unfolding scan
+  scan-does : (k : ℕ) → Does o n (scanProcedure o n return k) 0 (begin n (Scan 0) p)
+  unfolding scanProcedure
   scan-does k =
-      rounds-do n o P z eight page (p .register .seq) k 0 0 (λ j. 0) (λ j. zeroTriple n) (λ j. zeroTriple n) (begin n (Scan 0) p) (omega arith) (called-at page)
+      while-does n o P z eight scan (p .register .seq) k 0 0 (λ j. 0) (λ j. zeroTriple n) (λ j. zeroTriple n) (begin n (Scan 0) p) (omega arith) (called-at scan)
 
-  update-does : (k w : ℕ) → Does o n (update o n k w (p .register .seq)) 0 (begin n (Update w 0) p)
-  unfolding update scan
+  update-does : (k w : ℕ) → Does o n (updateProcedure o n k w (p .register .seq)) 0 (begin n (Update w 0) p)
+  unfolding updateProcedure scanProcedure
   update-does k w =
-      rounds-do n o P z eight (entry w) (p .register .seq) k 0 0 (λ j. 0) (λ j. zeroTriple n) (λ j. zeroTriple n) (begin n (Update w 0) p) (omega arith) (called-at (entry w))
+      while-does n o P z eight (update 0 w) (p .register .seq) k 0 0 (λ j. 0) (λ j. zeroTriple n) (λ j. zeroTriple n) (begin n (Update w 0) p) (omega arith) (called-at (update 0 w))
 
   -- from its call on, the turns of a scan are Figure 3's scan, and those of an update its update, for any number k of rounds
   pub turns-are-figure-3 : (k : ℕ) →
-      Does o n (scan o n return k) 0 (begin n (Scan 0) p)
-      × ((w : ℕ) → Does o n (update o n k w (p .register .seq)) 0 (begin n (Update w 0) p))
+      Does o n (scanProcedure o n return k) 0 (begin n (Scan 0) p)
+      × ((w : ℕ) → Does o n (updateProcedure o n k w (p .register .seq)) 0 (begin n (Update w 0) p))
   turns-are-figure-3 k = (scan-does k, update-does k)

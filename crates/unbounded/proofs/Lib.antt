@@ -1,12 +1,11 @@
 -- Theorems about Figure 3's method.
 pub mod Limits
-pub mod Marks
 pub mod Places
 pub mod Moved
 pub mod Reading
 pub mod Scans
 pub mod Scanning
-pub mod Machine
+pub mod Ties
 pub mod Deeds
 pub mod Demand3
 pub mod MarkedDays

@@ -8,14 +8,14 @@ use Rattle.snapshot.specs.Lists.{each}
 use Rattle.snapshot.proofs.Lists.{getD-each}
 use Rattle.unbounded.specs.Days.{mostReads}
 
-abbrev pub table : List ℕ
-table = 2 ∷ 8 ∷ 18 ∷ 32 ∷ 50 ∷ 72 ∷ 98 ∷ 128 ∷ []
+abbrev pub readsTable : List ℕ
+readsTable = 2 ∷ 8 ∷ 18 ∷ 32 ∷ 50 ∷ 72 ∷ 98 ∷ 128 ∷ []
 
-table-test : table ≡ each 8 (λ i. mostReads (i + 1))
+table-test : readsTable ≡ each 8 (λ i. mostReads (i + 1))
 unfolding mostReads
 table-test = refl
 
-pub table-rule : (n : ℕ) → 1 ≤ n → n ≤ 8 → getD table (n - 1) 0 ≡ mostReads n
+pub table-rule : (n : ℕ) → 1 ≤ n → n ≤ 8 → getD readsTable (n - 1) 0 ≡ mostReads n
 table-rule n l m =
     ap (λ t. getD t (n - 1) 0) table-test
     ∙ getD-each 8 (λ i. mostReads (i + 1)) (n - 1) 0 (omega arith)

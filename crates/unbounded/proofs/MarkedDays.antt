@@ -2,13 +2,15 @@
 use mathlib.Core.Path.{_≡_, refl}
 use mathlib.Core.List.{map}
 use Rattle.snapshot.specs.Demand.{step}
+use Rattle.snapshot.specs.Days.{isFull, refusal, openedBy, advance, calledBy, turnBy, accept}
 use Rattle.snapshot.specs.Verdict.{verdict}
-use Rattle.unbounded.specs.Registers.{laid, readInto, cleared, shown, differs, isMoved, withMoved, lends}
+use Rattle.snapshot.specs.Marks.{isMoved, withMoved, lends}
+use Rattle.unbounded.specs.Registers.{laid, readInto, cleared, pageOf, differs}
 use Rattle.unbounded.specs.Processes.{begin}
 use Rattle.unbounded.specs.Turns.{position, placeAt, firstAfter, secondAfter, endAfter, decision, marksAfter, afterRead, foundBy, written, turned}
-use Rattle.unbounded.specs.Days.{mostReads, isFull, unsound, refusal, advance, openedBy, calledBy, turnBy, accept}
+use Rattle.unbounded.specs.Days.{mostReads, unsound}
 use Rattle.unbounded.specs.MarkedDays.{played, markedDays}
 
 pub marked-days-follow : map played markedDays ≡ map (λ d. d .expected) markedDays
-unfolding markedDays step verdict laid readInto cleared shown differs isMoved withMoved lends begin position placeAt firstAfter secondAfter endAfter decision marksAfter afterRead foundBy written turned mostReads isFull unsound refusal advance openedBy calledBy turnBy accept
+unfolding markedDays step isFull refusal openedBy advance calledBy turnBy accept verdict isMoved withMoved lends laid readInto cleared pageOf differs begin position placeAt firstAfter secondAfter endAfter decision marksAfter afterRead foundBy written turned mostReads unsound
 marked-days-follow = refl

@@ -7,7 +7,7 @@ use lib.ListN.{length, getD, take, length-set}
 use lib.Seq.{getD-set-same, getD-set-other}
 use Rattle.snapshot.proofs.Lists.{take-over, length-each, getD-each}
 use Rattle.unbounded.specs.declared.Register.{Register}
-use Rattle.unbounded.specs.Registers.{noRegister, value, Order, collectedAt, shown, laid, readInto}
+use Rattle.unbounded.specs.Registers.{noRegister, value, Order, collectedAt, pageOf, laid, readInto}
 
 -- a register with the first n words of its view
 abbrev pub trimmed : ℕ → Register → Register
@@ -36,10 +36,10 @@ module _ (n : ℕ) (r : Register) (i : ℕ) (rs : List Register) where
 -- ---- the page that a collect shows
 
 module _ (o : Order) (n : ℕ) (rs : List Register) where
-  pub shown-long : length (shown o n rs) ≡ n
-  unfolding shown
-  shown-long = length-each n (λ j. value (collectedAt o rs j))
+  pub page-of-long : length (pageOf o n rs) ≡ n
+  unfolding pageOf
+  page-of-long = length-each n (λ j. value (collectedAt o rs j))
 
-  pub shown-at : (j : ℕ) → j < n → value (collectedAt o rs j) ≡ getD (shown o n rs) j 0
-  unfolding shown
-  shown-at j l = sym (getD-each n (λ i. value (collectedAt o rs i)) j 0 l)
+  pub page-of-at : (j : ℕ) → j < n → value (collectedAt o rs j) ≡ getD (pageOf o n rs) j 0
+  unfolding pageOf
+  page-of-at j l = sym (getD-each n (λ i. value (collectedAt o rs i)) j 0 l)

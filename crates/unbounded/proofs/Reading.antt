@@ -12,14 +12,15 @@ use lib.Seq.{length-take-le}
 use lib.Dec.{ltb}
 use borrow.Author.Tests.{ltb-true, ltb-false, lt-ltb, le-ltb, eq-eqb, ne-eqb}
 use Rattle.snapshot.specs.Verdict.{verdict}
+use Rattle.snapshot.specs.Marks.{lends, passed}
 use Rattle.snapshot.proofs.Lists.{length-over}
+use Rattle.snapshot.proofs.Marks.{length-marks}
 use Rattle.unbounded.specs.declared.Register.{Register}
 use Rattle.unbounded.specs.declared.Process.{Process}
 use Rattle.unbounded.specs.declared.Task.{Task}
-use Rattle.unbounded.specs.Registers.{zeroRegister, Order, laid, cleared, readInto, differs, lends}
-use Rattle.unbounded.specs.Processes.{begin}
-use Rattle.unbounded.specs.Turns.{position, placeAt, firstAfter, secondAfter, endAfter, decision, passed, marksAfter, afterRead}
-use Rattle.unbounded.proofs.Marks.{length-marks}
+use Rattle.unbounded.specs.Registers.{zeroRegister, Order, laid, cleared, readInto, differs}
+use Rattle.unbounded.specs.Processes.{emptied, begin}
+use Rattle.unbounded.specs.Turns.{position, placeAt, firstAfter, secondAfter, endAfter, decision, marksAfter, afterRead}
 use Rattle.unbounded.proofs.Places.{length-read-into}
 
 -- ---- where a read goes
@@ -78,7 +79,7 @@ module _ (n : ℕ) where
     decision-waits p a c ms h = rw (ne-eqb (p + 1) (2 * n) h)
 
     pub decision-falls : (p : ℕ) (a c : List Register) (ms : List Bool) → p + 1 ≡ 2 * n →
-        decision o n p a c ms ≡ some (verdict n (differs o a c) (lends o a c ms))
+        decision o n p a c ms ≡ some (verdict n (differs o a c) (lends (differs o a c) ms))
     unfolding decision
     decision-falls p a c ms h = rw (eq-eqb (p + 1) (2 * n) h)
 
@@ -112,14 +113,17 @@ length-second n p r c = go (lib.Dec.ltb p n)
     go true = refl
     go false = length-read-into n r (placeAt n p) c
 
-pub sized-begin : (n : ℕ) (k : Task) (p : Process) → n ≤ 8 → Sized p → Sized (begin n k p)
-unfolding begin
-sized-begin n k p b S =
+pub sized-emptied : (n : ℕ) (r : Register) (k : Task) (p : Process) → n ≤ 8 → Sized p → Sized (emptied n r k p)
+sized-emptied n r k p b S =
     let f = S .firsts in
     let s = S .seconds in
     let qf = length-cleared n (p .first) (omega arith) in
     let qs = length-cleared n (p .second) (omega arith) in
     record { firsts = omega arith; seconds = omega arith; marks = omega (arith, length-replicate 8 false) }
+
+pub sized-begin : (n : ℕ) (k : Task) (p : Process) → n ≤ 8 → Sized p → Sized (begin n k p)
+unfolding begin
+sized-begin n k p b S = sized-emptied n (p .register) k p b S
 
 pub sized-read : (o : Order) (n now pos : ℕ) (r : Register) (p : Process) (k : Task) (v : List ℕ) → Sized p →
     Sized (afterRead o n now pos r p k v)

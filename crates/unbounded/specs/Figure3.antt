@@ -8,13 +8,13 @@ use mathlib.Core.Option.{none, some}
 use lib.ListN.{length, replicate}
 use lib.Dec.{eqb}
 use Rattle.snapshot.specs.Lists.{over, each, everyFrom}
+use Rattle.snapshot.specs.Marks.{isMoved}
 use Rattle.snapshot.specs.Demand.{Result}
 use Rattle.snapshot.specs.declared.Answer.the-variants.{Read, Page, Written}
 use Rattle.unbounded.specs.declared.Register.{Register}
 use Rattle.unbounded.specs.declared.Process.{Process}
-use Rattle.unbounded.specs.declared.Task.{Task}
-use Rattle.unbounded.specs.declared.Task.the-variants.{Idle, Scan, Update, Ready}
-use Rattle.unbounded.specs.Registers.{value, viewed, Order, collectedAt, isMoved}
+use Rattle.unbounded.specs.Registers.{value, viewed, Order, collectedAt}
+use Rattle.unbounded.specs.Processes.{turnsOf}
 use Rattle.unbounded.specs.Turns.{reads, turned}
 
 -- ---- what the figure works on
@@ -76,9 +76,9 @@ search (suc k) j a b moved again finish =
 -- scan, with what is done with the words that it returns and their lender
 module _ (o : Order) (n : ℕ) (finish : ℕ → List ℕ → Procedure) where
   -- line 1: while true do; as many rounds as are given
-  unfoldable pub rounds : ℕ → (moved : Array ℕ) (a b : Array Triple) → Procedure
-  rounds zero moved a b = spent
-  rounds (suc k) moved a b =
+  unfoldable pub whileTrue : ℕ → (moved : Array ℕ) (a b : Array Triple) → Procedure
+  whileTrue zero moved a b = spent
+  whileTrue (suc k) moved a b =
       -- 2: a[1..n] := collect
       collect o n 0 (λ a. record { moved = moved; a = a; b = b }) a
       (λ a.
@@ -90,15 +90,15 @@ module _ (o : Order) (n : ℕ) (finish : ℕ → List ℕ → Procedure) where
       -- 5: return (b[1].data, .., b[n].data)
       (finish 0 (each n (λ j. b j .content)))
       -- 6: else for j = 1 to n do
-      (search n 0 a b moved (λ moved. rounds k moved a b) finish)))
+      (search n 0 a b moved (λ moved. whileTrue k moved a b) finish)))
 
   -- line 0: for j = 1 to n do moved[j] := 0; a place that was not read yet is 0
-  unfoldable pub scan : ℕ → Procedure
-  scan k = rounds k (λ j. 0) (λ j. zeroTriple n) (λ j. zeroTriple n)
+  unfoldable pub scanProcedure : ℕ → Procedure
+  scanProcedure k = whileTrue k (λ j. 0) (λ j. zeroTriple n) (λ j. zeroTriple n)
 
 -- update, by a process whose register's seq is s: line 1, s[1..n] := scan; line 2, r := (data, r.seq + 1, s[1..n])
-unfoldable pub update : Order → ℕ → ℕ → (word s : ℕ) → Procedure
-update o n k word s = scan o n (λ lender words. write (record { content = word; seq = s + 1; view = words })) k
+unfoldable pub updateProcedure : Order → ℕ → ℕ → (word s : ℕ) → Procedure
+updateProcedure o n k word s = scanProcedure o n (λ lender words. write (record { content = word; seq = s + 1; view = words })) k
 
 -- ---- the turns of a process are a procedure
 
@@ -106,20 +106,13 @@ update o n k word s = scan o n (λ lender words. write (record { content = word;
 abbrev pub triple : ℕ → Register → Triple
 triple n r = record { content = value r; seq = r .seq; view = viewed n r }
 
--- "the accepted turns it has had"
-abbrev pub turnsOf : Task → ℕ
-turnsOf Idle = 0
-turnsOf (Scan t) = t
-turnsOf (Update w t) = t
-turnsOf (Ready w at t) = t
-
 abbrev pub mark : Bool → ℕ
 mark true = 1
 mark false = 0
 
 module _ (o : Order) (n : ℕ) where
-  -- record p holds the procedure's variables
-  pub record Holds (v : Variables) (p : Process) : Type 0 where
+  -- record p remembers the procedure's variables
+  pub record Remembers (v : Variables) (p : Process) : Type 0 where
     pub moved : (j : ℕ) → j < n → v .moved j ≡ mark (isMoved (p .moved) j)
     pub a : (j : ℕ) → j < n → v .a j ≡ triple n (collectedAt o (p .first) j)
     pub b : (j : ℕ) → j < n → v .b j ≡ triple n (collectedAt o (p .second) j)
@@ -139,7 +132,7 @@ module _ (o : Order) (n : ℕ) where
   -- access, its collects, marks and turns are the procedure's, and its writing turn writes what line 2 says
   unfoldable pub Does : Procedure → ℕ → Process → Type 0
   Does (read v j next) t p =
-      Holds v p
+      Remembers v p
       × (turnsOf (p .task) ≡ t)
       × (reads o n (p .task) ≡ some j)
       × ((now : ℕ) (r : Register) (page : List ℕ) → length (r .view) ≡ 8 →

@@ -2,10 +2,13 @@
 use Prim.Native.Nat.{ℕ, _+_, _-_}
 use mathlib.Core.List.{List, [], _∷_, _++_}
 use lib.ListN.{replicate}
+use Rattle.snapshot.specs.Requests.{blankDay}
+use Rattle.snapshot.specs.Days.{State, Item, openFor, updateCall, scanCall, turnOf}
 use Rattle.snapshot.specs.Replies.{Reply, refused, opened, called, read, page, written, replies}
+use Rattle.unbounded.specs.declared.Process.{Process}
 use Rattle.unbounded.specs.Registers.{ascending}
 use Rattle.unbounded.specs.Processes.{zeroProcess}
-use Rattle.unbounded.specs.Days.{State, Item, openFor, updateCall, scanCall, turnOf, method}
+use Rattle.unbounded.specs.Days.{method}
 
 -- a day for n processes: a blank day with a table of n records is asked these items, and replies so
 pub record MarkedDay : Type 0 where
@@ -13,9 +16,8 @@ pub record MarkedDay : Type 0 where
   pub items : List Item
   pub expected : List (Reply ℕ)
 
--- "A blank day has both 0"
-abbrev pub blank : ℕ → State
-blank n = record { day = record { count = 0; event = 0 }; table = replicate n zeroProcess }
+abbrev pub blank : ℕ → State Process
+blank n = record { day = blankDay; table = replicate n zeroProcess }
 
 -- what the definitions reply on a day
 abbrev pub played : MarkedDay → List (Reply ℕ)
@@ -25,8 +27,8 @@ played d = replies (method ascending (d .count)) (blank (d .count)) (d .items)
 abbrev turns : (n k d : ℕ) → List Item
 turns n k d = replicate k (turnOf d (replicate n 9))
 
-abbrev reads : ℕ → List (Reply ℕ)
-reads k = replicate k read
+abbrev manyReads : ℕ → List (Reply ℕ)
+manyReads k = replicate k read
 
 -- case A
 abbrev dayA : MarkedDay
@@ -34,7 +36,7 @@ dayA =
     record {
       count = 1;
       items = openFor 1 ∷ updateCall 1 7 ∷ turns 1 3 1 ++ scanCall 1 ∷ turns 1 3 1;
-      expected = opened ∷ called ∷ reads 2 ++ written 3 ∷ called ∷ read ∷ page 0 6 2 (7 ∷ []) ∷ refused 4 ∷ [];
+      expected = opened ∷ called ∷ manyReads 2 ++ written 3 ∷ called ∷ read ∷ page 0 6 2 (7 ∷ []) ∷ refused 4 ∷ [];
     }
 
 -- B and C to event 11: process 2 writes w between the two collects of process 1
@@ -42,7 +44,7 @@ abbrev twoMoved : ℕ → List Item
 twoMoved w = openFor 2 ∷ scanCall 1 ∷ turns 2 2 1 ++ updateCall 2 w ∷ turns 2 5 2 ++ turns 2 2 1
 
 abbrev twoMovedReplies : List (Reply ℕ)
-twoMovedReplies = opened ∷ called ∷ reads 2 ++ called ∷ reads 4 ++ written 5 ∷ reads 2
+twoMovedReplies = opened ∷ called ∷ manyReads 2 ++ called ∷ manyReads 4 ++ written 5 ∷ manyReads 2
 
 -- case B: row 2 holds 9 by event 21, whose page is borrowed from process 2
 abbrev dayB : MarkedDay
@@ -50,7 +52,7 @@ dayB =
     record {
       count = 2;
       items = twoMoved 7 ++ turns 2 2 1 ++ updateCall 2 9 ∷ turns 2 5 2 ++ turns 2 2 1;
-      expected = twoMovedReplies ++ reads 2 ++ called ∷ reads 4 ++ written 5 ∷ read ∷ page 2 16 8 (0 ∷ 7 ∷ []) ∷ [];
+      expected = twoMovedReplies ++ manyReads 2 ++ called ∷ manyReads 4 ++ written 5 ∷ read ∷ page 2 16 8 (0 ∷ 7 ∷ []) ∷ [];
     }
 
 -- case C: the word never changed; the seq did
@@ -59,7 +61,7 @@ dayC =
     record {
       count = 2;
       items = twoMoved 0 ++ turns 2 4 1;
-      expected = twoMovedReplies ++ reads 3 ++ page 0 13 8 (0 ∷ 0 ∷ []) ∷ [];
+      expected = twoMovedReplies ++ manyReads 3 ++ page 0 13 8 (0 ∷ 0 ∷ []) ∷ [];
     }
 
 -- case D
@@ -69,7 +71,7 @@ dayD =
       count = 3;
       items = openFor 3 ∷ scanCall 3 ∷ turns 3 1 3 ++ updateCall 1 5 ∷ turns 3 7 1 ++ updateCall 2 6 ∷ turns 3 7 2 ++ turns 3 11 3;
       expected =
-          opened ∷ called ∷ read ∷ called ∷ reads 6 ++ written 7 ∷ called ∷ reads 6 ++ written 7 ∷ reads 10
+          opened ∷ called ∷ read ∷ called ∷ manyReads 6 ++ written 7 ∷ called ∷ manyReads 6 ++ written 7 ∷ manyReads 10
           ++ page 0 26 12 (5 ∷ 6 ∷ 0 ∷ []) ∷ [];
     }
 

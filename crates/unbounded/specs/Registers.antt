@@ -1,6 +1,6 @@
 -- Registers (document 01: rows) and collects, and what a page shows of them.
 use Prim.Native.Nat.{ℕ}
-use mathlib.Core.Bool.{Bool, true, false, not, _&&_}
+use mathlib.Core.Bool.{Bool, not}
 use mathlib.Core.List.{List, [], map}
 use lib.ListN.{getD, set, take, replicate}
 use lib.Dec.{eqb}
@@ -55,27 +55,9 @@ abbrev pub collectedAt : Order → List Register → ℕ → Register
 collectedAt o rs j = getD rs (o .place j) noRegister
 
 -- the page that a collect shows, in the order of the processes
-unfoldable pub shown : Order → ℕ → List Register → List ℕ
-shown o n rs = each n (λ j. value (collectedAt o rs j))
-
--- ---- moved processes
+unfoldable pub pageOf : Order → ℕ → List Register → List ℕ
+pageOf o n rs = each n (λ j. value (collectedAt o rs j))
 
 -- process j's seq differs between the two collects (Figure 3, line 7)
 unfoldable pub differs : Order → List Register → List Register → ℕ → Bool
 differs o a b j = not (eqb (collectedAt o a j .seq) (collectedAt o b j .seq))
-
--- process j is marked (document 01: marked; Figure 3: moved[j] = 1)
-unfoldable pub isMoved : List Bool → ℕ → Bool
-isMoved ms j = getD ms j false
-
--- the marks with process j marked too (Figure 3, line 10)
-unfoldable pub withMoved : List Bool → ℕ → List Bool
-withMoved ms j = set ms j true
-
--- "all desks unmarked" (Figure 3, line 0)
-abbrev pub noneMoved : List Bool
-noneMoved = replicate 8 false
-
--- process j lends: it differs, and is marked from an earlier double collect (Figure 3, lines 7 and 8)
-unfoldable pub lends : Order → List Register → List Register → List Bool → ℕ → Bool
-lends o a b ms j = differs o a b j && isMoved ms j

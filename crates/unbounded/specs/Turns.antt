@@ -1,19 +1,20 @@
 -- What one turn of a process does (document 01, What one turn does; Figure 3), given the one register that it reads.
-use Prim.Native.Nat.{ℕ, zero, suc, _+_, _-_, _*_, _%_}
+use Prim.Native.Nat.{ℕ, _+_, _-_, _*_, _%_}
 use mathlib.Core.Bool.{Bool, cond}
 use mathlib.Core.List.{List}
 use mathlib.Core.Option.{Option, none, some}
 use lib.Dec.{eqb, ltb}
 use Rattle.snapshot.specs.Lists.{over}
 use Rattle.snapshot.specs.Verdict.{Verdict, clean, lent, again, verdict}
+use Rattle.snapshot.specs.Marks.{lends, markFrom, passed, Found}
 use Rattle.snapshot.specs.Demand.{Result}
 use Rattle.snapshot.specs.declared.Answer.the-variants.{Read, Page, Written}
 use Rattle.unbounded.specs.declared.Register.{Register}
 use Rattle.unbounded.specs.declared.Process.{Process}
 use Rattle.unbounded.specs.declared.Task.{Task}
 use Rattle.unbounded.specs.declared.Task.the-variants.{Idle, Scan, Update, Ready}
-use Rattle.unbounded.specs.Registers.{Order, collectedAt, viewed, laid, readInto, shown, differs, lends, withMoved}
-use Rattle.unbounded.specs.Processes.{begin}
+use Rattle.unbounded.specs.Registers.{Order, collectedAt, viewed, laid, readInto, pageOf, differs}
+use Rattle.unbounded.specs.Processes.{emptied, begin}
 
 -- ---- the read of a turn
 
@@ -46,83 +47,56 @@ endAfter n p now end = cond (eqb (p + 1) n) now end
 
 -- ---- the decision, which is part of the same turn
 
--- of the k processes from j on, each that moved is marked (Figure 3, lines 6, 7 and 10)
-abbrev pub markFrom : (ℕ → Bool) → ℕ → ℕ → List Bool → List Bool
-markFrom moved zero j ms = ms
-markFrom moved (suc k) j ms = markFrom moved k (suc j) (cond (moved j) (withMoved ms j) ms)
-
 -- after the last read of a double collect, its verdict; before that, none (2 to 4)
 unfoldable pub decision : Order → ℕ → ℕ → List Register → List Register → List Bool → Option Verdict
-decision o n p a b ms = cond (eqb (p + 1) (2 * n)) (some (verdict n (differs o a b) (lends o a b ms))) none
-
--- how many processes the search for a lender passes: "The first lender ends the search" (3)
-abbrev pub passed : ℕ → Option Verdict → ℕ
-passed n none = 0
-passed n (some clean) = 0
-passed n (some (lent j)) = j
-passed n (some again) = n
+decision o n p a b ms = cond (eqb (p + 1) (2 * n)) (some (verdict n (differs o a b) (lends (differs o a b) ms))) none
 
 -- the marks after a decision
 unfoldable pub marksAfter : Order → ℕ → List Register → List Register → List Bool → Option Verdict → List Bool
 marksAfter o n a b ms v = markFrom (differs o a b) (passed n v) 0 ms
 
--- a page that was found, with its instant and its lender, numbered from 1, or 0 when clean
-pub record Found : Type 0 where
-  pub words : List ℕ
-  pub instant : ℕ
-  pub lender : ℕ
-
 -- the page that a decision finds, from the second collect and the end of the first: "the words of the second collect", at
 -- "the number of the turn that ended the first collect"; or "the view, and the at" of the lender's row in the second collect
-abbrev pub found : Order → ℕ → List Register → ℕ → Option Verdict → Option Found
+abbrev pub found : Order → ℕ → List Register → ℕ → Option Verdict → Option (Found ℕ)
 found o n b end none = none
-found o n b end (some clean) = some (record { words = shown o n b; instant = end; lender = 0 })
+found o n b end (some clean) = some (record { words = pageOf o n b; instant = end; lender = 0 })
 found o n b end (some (lent j)) =
     some (record { words = viewed n (collectedAt o b j); instant = collectedAt o b j .at; lender = j + 1 })
 found o n b end (some again) = none
 
 -- ---- the record after a reading turn
 
--- p with task k, view v and marks ms, once register r is read at position pos by the turn numbered now
-abbrev pub readWith : ℕ → ℕ → ℕ → Register → Process → Task → List ℕ → List Bool → Process
-readWith n now pos r p k v ms =
-    record {
-      register = p .register;
-      task = k;
-      first = firstAfter n pos r (p .first);
-      second = secondAfter n pos r (p .second);
-      «first_end» = endAfter n pos now (p .«first_end»);
-      view = v;
-      moved = ms;
-    }
-
--- p with task k and view v after that read
+-- p with task k and view v, once register r is read at position pos by the turn numbered now
 unfoldable pub afterRead : Order → ℕ → ℕ → ℕ → Register → Process → Task → List ℕ → Process
 afterRead o n now pos r p k v =
     let a = firstAfter n pos r (p .first) in
     let b = secondAfter n pos r (p .second) in
-    readWith n now pos r p k v (marksAfter o n a b (p .moved) (decision o n pos a b (p .moved)))
+    record {
+      register = p .register;
+      task = k;
+      first = a;
+      second = b;
+      «first_end» = endAfter n pos now (p .«first_end»);
+      view = v;
+      moved = marksAfter o n a b (p .moved) (decision o n pos a b (p .moved));
+    }
 
 -- the page that the read at position pos finds, if it finds one
-unfoldable pub foundBy : Order → ℕ → ℕ → ℕ → Register → Process → Option Found
+unfoldable pub foundBy : Order → ℕ → ℕ → ℕ → Register → Process → Option (Found ℕ)
 foundBy o n now pos r p =
     let a = firstAfter n pos r (p .first) in
     let b = secondAfter n pos r (p .second) in
     found o n b (endAfter n pos now (p .«first_end»)) (decision o n pos a b (p .moved))
 
 -- a scan's reading turn: it answers the page that it finds, and lays the page's words over the first n of the page list
-abbrev pub scanTurn : Order → ℕ → ℕ → Register → List ℕ → Process → ℕ → Option Found → Result Process
+abbrev pub scanTurn : Order → ℕ → ℕ → Register → List ℕ → Process → ℕ → Option (Found ℕ) → Result Process
 scanTurn o n now r page p t none =
     record { state = afterRead o n now (position n t) r p (Scan (t + 1)) (p .view); answer = Read; page = page }
 scanTurn o n now r page p t (some f) =
-    record {
-      state = begin n Idle p;
-      answer = Page (f .lender) (f .instant) (t + 1);
-      page = over n (f .words) page;
-    }
+    record { state = begin n Idle p; answer = Page (f .lender) (f .instant) (t + 1); page = over n (f .words) page }
 
 -- an update's reading turn: it keeps the page that it finds, for its writing turn (5)
-abbrev pub updateTurn : Order → ℕ → ℕ → Register → List ℕ → Process → ℕ → ℕ → Option Found → Result Process
+abbrev pub updateTurn : Order → ℕ → ℕ → Register → List ℕ → Process → ℕ → ℕ → Option (Found ℕ) → Result Process
 updateTurn o n now r page p w t none =
     record { state = afterRead o n now (position n t) r p (Update w (t + 1)) (p .view); answer = Read; page = page }
 updateTurn o n now r page p w t (some f) =
@@ -136,26 +110,13 @@ updateTurn o n now r page p w t (some f) =
 unfoldable pub written : ℕ → ℕ → ℕ → Process → Register
 written n w at p = laid n (record { word = w; seq = p .register .seq + 1; view = p .view; at = at }) (p .register)
 
--- p with another register
-abbrev pub withRegister : Register → Process → Process
-withRegister r p =
-    record {
-      register = r;
-      task = p .task;
-      first = p .first;
-      second = p .second;
-      «first_end» = p .«first_end»;
-      view = p .view;
-      moved = p .moved;
-    }
-
 -- the turn numbered now of a process p whose task is k, with the page list lent; an idle one is refused before it comes here
 abbrev pub turnedBy : Order → ℕ → ℕ → Register → List ℕ → Process → Task → Result Process
 turnedBy o n now r page p Idle = record { state = p; answer = Read; page = page }
 turnedBy o n now r page p (Scan t) = scanTurn o n now r page p t (foundBy o n now (position n t) r p)
 turnedBy o n now r page p (Update w t) = updateTurn o n now r page p w t (foundBy o n now (position n t) r p)
 turnedBy o n now r page p (Ready w at t) =
-    record { state = begin n Idle (withRegister (written n w at p) p); answer = Written (t + 1); page = page }
+    record { state = emptied n (written n w at p) Idle p; answer = Written (t + 1); page = page }
 
 unfoldable pub turned : Order → ℕ → ℕ → Register → List ℕ → Process → Result Process
 turned o n now r page p = turnedBy o n now r page p (p .task)

@@ -1,4 +1,4 @@
--- Laws of the marks: what `withMoved` and a search that marks leave marked.
+-- Laws of the marks: what `withMoved` and a search that marks leave marked, and who lends.
 use Prim.Native.Nat.{ℕ, zero, suc, _+_, _≤_, _<_}
 use native.Mathlib.Numerals.{add-one}
 use native.Mathlib.Omega.{arith}
@@ -9,8 +9,8 @@ use mathlib.Core.Bool.{Bool, true, false, cond, false≢true}
 use mathlib.Core.List.{List}
 use lib.ListN.{length, getD, replicate, length-set}
 use lib.Seq.{getD-set-same, getD-set-other, set-out}
-use Rattle.unbounded.specs.Registers.{isMoved, withMoved, noneMoved}
-use Rattle.unbounded.specs.Turns.{markFrom}
+use Rattle.snapshot.specs.Marks.{isMoved, withMoved, noneMoved, lends, markFrom}
+use Rattle.snapshot.proofs.Booleans.{and-both}
 
 -- ---- one mark
 
@@ -39,6 +39,29 @@ none-moved i = nowhere 8 i
     nowhere (suc n) zero = refl
     nowhere (suc n) (suc i) = nowhere n i
 
+-- ---- who lends
+
+module _ (moved : ℕ → Bool) (ms : List Bool) (j : ℕ) where
+  pub lends-moved : lends moved ms j ≡ true → moved j ≡ true
+  unfolding lends
+  lends-moved h = and-both (moved j) (isMoved ms j) h .0
+
+  pub lends-marked : lends moved ms j ≡ true → isMoved ms j ≡ true
+  unfolding lends
+  lends-marked h = and-both (moved j) (isMoved ms j) h .1
+
+  pub still-lends-not : moved j ≡ false → lends moved ms j ≡ false
+  unfolding lends
+  still-lends-not d = rw d
+
+  pub moved-lends : moved j ≡ true → lends moved ms j ≡ isMoved ms j
+  unfolding lends
+  moved-lends d = rw d
+
+  -- who moved and does not lend is not marked yet
+  pub unmarked : moved j ≡ true → lends moved ms j ≡ false → isMoved ms j ≡ false
+  unmarked d l = sym (moved-lends d) ∙ l
+
 -- ---- a search that marks
 
 module _ (f : ℕ → Bool) where
@@ -54,7 +77,8 @@ module _ (f : ℕ → Bool) where
   step-keeps ms j i false h = h
   step-keeps ms j i true h =
       by-cases (ℕ-discrete i j)
-      (λ e. by-cases (decLt j (length ms)) (λ l. ap (isMoved (withMoved ms j)) e ∙ moved-same ms j l) (λ l. ap (λ m. isMoved m i) (moved-out ms j (omega arith)) ∙ h))
+      (λ e. by-cases (decLt j (length ms)) (λ l. ap (isMoved (withMoved ms j)) e ∙ moved-same ms j l)
+      (λ l. ap (λ m. isMoved m i) (moved-out ms j (omega arith)) ∙ h))
       (λ e. moved-other ms i j e ∙ h)
 
   pub marks-keep : (k j : ℕ) (ms : List Bool) (i : ℕ) → isMoved ms i ≡ true → isMoved (markFrom f k j ms) i ≡ true

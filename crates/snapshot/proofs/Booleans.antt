@@ -1,0 +1,28 @@
+-- Laws of booleans: what a test says of its parts.
+use mathlib.Core.Path.{_≡_, refl}
+use mathlib.Core.Bool.{Bool, true, false, cond, not, _&&_, _||_, true≢false, false≢true}
+use lib.Dec.{T}
+
+pub bool-cases : {C : Type 0} (b : Bool) → (b ≡ true → C) → (b ≡ false → C) → C
+bool-cases true f g = f refl
+bool-cases false f g = g refl
+
+pub not-false : (b : Bool) → not b ≡ false → b ≡ true
+not-false true h = refl
+not-false false h = absurd (true≢false h)
+
+pub or-neither : (a b : Bool) → (a || b) ≡ false → (a ≡ false) × (b ≡ false)
+or-neither true b h = absurd (true≢false h)
+or-neither false b h = (refl, h)
+
+pub and-both : (a b : Bool) → (a && b) ≡ true → (a ≡ true) × (b ≡ true)
+and-both true b h = (refl, h)
+and-both false b h = absurd (false≢true h)
+
+pub cond-held : {X : Type 0} (c : Bool) (x y : X) → T c → x ≡ cond c x y
+cond-held true x y h = refl
+cond-held false x y h = absurd h
+
+pub cond-failed : {X : Type 0} (c : Bool) (x y : X) → T (not c) → y ≡ cond c x y
+cond-failed true x y h = absurd h
+cond-failed false x y h = refl

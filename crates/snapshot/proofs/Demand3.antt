@@ -1,0 +1,348 @@
+-- Demand 3 of every machine that pays what it owes (`Works`): the tie between records and tally, refusals, the event number, the
+-- table and its pages, once for all machines.
+use Prim.Native.Nat.{ℕ, suc, _+_, _-_, _≤_, _<_}
+use native.Mathlib.Numerals.{add-one}
+use native.Mathlib.Omega.{arith}
+use native.Mathlib.Decide.{ℕ-discrete}
+use mathlib.Core.Path.{_≡_, refl, sym, ap, ap₂, _∙_, subst}
+use mathlib.Core.Logic.{_≢_, by-cases}
+use mathlib.Core.Bool.{Bool, true, false, not, _||_, true≢false}
+use mathlib.Core.List.{List, [], _∷_, map}
+use mathlib.Core.Option.{Option, none, some, Option·some-ne-none, Option·some-injective}
+use lib.ListN.{length, getD, set, take, replicate, length-set, length-map, length-replicate, getD-replicate, List·getD-map}
+use lib.Seq.{getD-set-same, getD-set-other, map-set-same}
+use lib.Dec.{eqb, ltb}
+use borrow.Author.Tests.{eqb-true, eqb-false, ltb-false, ne-eqb, le-ltb}
+use Rattle.snapshot.specs.declared.Refusal.{Refusal}
+use Rattle.snapshot.specs.declared.Refusal.the-variants.{CountRange, ProcessRange, Busy, Idle, DayFull, LentSize}
+use Rattle.snapshot.specs.declared.Refusal.the-variants.{OpenState, CannotArise}
+use Rattle.snapshot.specs.declared.Answer.{Answer}
+use Rattle.snapshot.specs.declared.Answer.the-variants.{Called}
+use Rattle.snapshot.specs.Lists.{someOf}
+use Rattle.snapshot.specs.Refusals.{numberOf, Cause, firstCause}
+use Rattle.snapshot.specs.Tally.{Job, scan, update, Seen, call, turn, Call, started, opens, gains}
+use Rattle.snapshot.specs.Demand.{Result, Among, RefusalFits, Holds, admit, step}
+use Rattle.snapshot.specs.Days.{Machine, State, Item, openFor, updateCall, scanCall, turnOf, sees}
+use Rattle.snapshot.specs.Days.{outside, isFull, cannotArise, processOf, openingCauses, causes, callCauses, turnCauses, refusal}
+use Rattle.snapshot.specs.Days.{openedBy, advance, calledBy, readFrom, turnBy, accept, method, openedFor}
+use Rattle.snapshot.proofs.Booleans.{or-neither, not-false}
+use Rattle.snapshot.proofs.Causes.{accepted-passes, Avoids, refused-avoids, refused-first}
+use Rattle.snapshot.proofs.Lists.{some-of-none, map-set, map-replicate, map-constant, list-is-each, each-cong}
+use Rattle.snapshot.proofs.Owed.{Owed, Deed, call-deed, read-deed, page-deed, write-deed, actor}
+use Rattle.snapshot.proofs.Fold.{holds}
+use Rattle.snapshot.proofs.Works.{Owns, processAt, pageAt, turnAt, Event, Works}
+use Rattle.snapshot.proofs.Works.{TurnDeed, turn-reads, turn-pages, turn-writes}
+
+-- ---- tests
+
+pub outside-among : (n d : ℕ) → outside 1 n d ≡ false → Among n d
+outside-among n d h =
+    let t = or-neither (ltb d 1) (ltb n d) h in
+    let a = ltb-false d 1 (t .0) in
+    let b = ltb-false n d (t .1) in
+    (omega arith, omega arith)
+
+full-false : (e : ℕ) → isFull e ≡ false → e ≢ 65535
+unfolding isFull
+full-false e h = eqb-false e 65535 h
+
+-- refusals with different numbers are different
+apart : (a b : Refusal) → numberOf a ≢ numberOf b → a ≢ b
+apart a b h q = h (ap numberOf q)
+
+module _ (M : Machine) (n : ℕ) (W : (H : ℕ → State (M .Process)) → Works M n H) (z : 0 < n) (eight : n ≤ 8) where
+  -- ---- what holds of the past
+
+  record Past (H : ℕ → State (M .Process)) (e : ℕ) : Type 0 where
+    count : H e .day .count ≡ n
+    sizes : (t : ℕ) → t ≤ e → length (H t .table) ≡ n
+    laws : W H .Laws e
+    limit : e ≤ 65535
+
+  abbrev tied : (ℕ → State (M .Process)) → ℕ → ℕ → Option Call → Type 0
+  tied H e i c = W H .Tie e i (processAt M H i e) c
+
+  abbrev words : State (M .Process) → List (M .Value)
+  words s = map (M .value) (s .table)
+
+  -- a table of n records shows the page of its instant
+  table-shows : (H : ℕ → State (M .Process)) (t : ℕ) → length (H t .table) ≡ n → words (H t) ≡ pageAt M n H t
+  table-shows H t q =
+      let blank = M .value (M .noProcess) in
+      list-is-each n blank (words (H t)) (length-map (H t .table) (M .value) ∙ q)
+      ∙ each-cong n (λ j. getD (words (H t)) j blank) (λ j. M .value (processAt M H j t))
+      (λ j l. List·getD-map (M .value) (H t .table) j (M .noProcess))
+
+  module _ (H : ℕ → State (M .Process)) (e : ℕ) (open-call : ℕ → Option Call) (A : Past H e) (number : H e .day .event ≡ e)
+      (T : (i : ℕ) → i < n → tied H e i (open-call i)) where
+    -- ---- refusals
+
+    can-arise : cannotArise (H e .day) (someOf (M .unsound (H e .day .count) (H e .day .event)) (H e .table)) ≡ false
+    can-arise =
+        let c = A .count in
+        let l = A .limit in
+        let s = A .sizes e (omega arith) in
+        ap₂ _||_ (le-ltb 8 (H e .day .count) (omega arith))
+        (ap₂ _||_ (le-ltb 65535 (H e .day .event) (omega arith))
+        (some-of-none (M .unsound (H e .day .count) (H e .day .event)) (H e .table) (M .noProcess)
+        (λ i b.
+        ap₂ (λ k t. M .unsound k t (processAt M H i e)) c number
+        ∙ W H .sound e i (open-call i) (omega arith) (A .laws) (T i (omega arith)))))
+
+    -- no cause leads to 11, if that of a wrong state does not
+    avoids : (d : ℕ) (short : Bool) (wrong : Cause) → wrong .1 ≢ CannotArise → Avoids CannotArise (causes M (H e) d short wrong)
+    avoids d short wrong h = (
+      (λ q. apart OpenState CannotArise (λ r. omega arith)),
+      (
+        (λ q. apart LentSize CannotArise (λ r. omega arith)),
+        (
+          (λ q r. true≢false (sym q ∙ can-arise)),
+          (
+            (λ q. apart ProcessRange CannotArise (λ r. omega arith)),
+            ((λ q. h), ((λ q. apart DayFull CannotArise (λ r. omega arith)), tt)),
+          ),
+        ),
+      ),
+    )
+
+    never-11 : (d : ℕ) (short : Bool) (wrong : Cause) → wrong .1 ≢ CannotArise → (k : Refusal) →
+        firstCause (causes M (H e) d short wrong) ≡ some k → k ≢ CannotArise
+    never-11 d short wrong h k q r =
+        refused-avoids CannotArise (causes M (H e) d short wrong) (avoids d short wrong h) (q ∙ ap {B = Option Refusal} some r)
+
+    call-refused : (d : ℕ) (k : Refusal) → firstCause (callCauses M (H e) d) ≡ some k → k ≢ CannotArise
+    call-refused d = never-11 d false (not (M .isIdle (processOf M (H e) d)), Busy) (apart Busy CannotArise (λ r. omega arith))
+
+    -- a day that is open refuses a further opening with 10
+    open-refused : (k : ℕ) → firstCause (openingCauses M (H e) k) ≡ some OpenState
+    open-refused k =
+        refused-first (not (eqb (H e .day .count) 0), OpenState)
+        ((outside 1 8 k, CountRange) ∷ (not (eqb (length (H e .table)) k), LentSize) ∷ [])
+        (ap not (ne-eqb (H e .day .count) 0 (λ q. let c = A .count in omega arith)))
+
+    refused-fits : (x : Item) (k : Refusal) → refusal M (H e) x ≡ some k → RefusalFits k (sees x)
+    unfolding refusal
+    refused-fits (openFor c) k q = Option·some-injective k OpenState (sym q ∙ open-refused c)
+    refused-fits (updateCall d w) k q = call-refused d k q
+    refused-fits (scanCall d) k q = call-refused d k q
+    refused-fits (turnOf d page) k q =
+        never-11 d (ltb (length page) (M .pageLength (H e .day .count))) (M .isIdle (processOf M (H e) d), Idle)
+        (apart Idle CannotArise (λ r. omega arith)) k q
+
+    -- ---- accepted items
+
+    -- what acceptance tells of a call or a turn
+    record Accepted (d : ℕ) (wrong : Cause) : Type 0 where
+      among : Among n d
+      right : wrong .0 ≡ false
+      room : e < 65535
+
+    accepted : (d : ℕ) (short : Bool) (wrong : Cause) → firstCause (causes M (H e) d short wrong) ≡ none → Accepted d wrong
+    accepted d short wrong q =
+        let w = accepted-passes (causes M (H e) d short wrong) q in
+        let full = full-false (H e .day .event) (w .1 .1 .1 .1 .1 .0) in
+        let l = A .limit in
+        record {
+          among = outside-among n d (ap (λ k. outside 1 k d) (sym (A .count)) ∙ w .1 .1 .1 .0);
+          right = w .1 .1 .1 .1 .0;
+          room = omega arith;
+        }
+
+    -- event e + 1 leaves process d the record p
+    module _ (d : ℕ) (p : M .Process) (m : Among n d) (next : H (suc e) ≡ advance M (H e) d p) where
+      event : Event M n H e (d - 1) p
+      unfolding advance
+      event =
+          let s = A .sizes e (omega arith) in
+          record {
+            inside = omega arith;
+            own = ap (λ s. getD (s .table) (d - 1) (M .noProcess)) next
+                ∙ getD-set-same (H e .table) (d - 1) p (M .noProcess) (omega arith);
+            other = λ j h. ap (λ s. getD (s .table) j (M .noProcess)) next
+                ∙ getD-set-other (H e .table) (d - 1) j p (M .noProcess) h;
+          }
+
+      next-event : H (suc e) .day .event ≡ suc e
+      unfolding advance
+      next-event = ap (λ s. s .day .event) next ∙ ap (λ k. k + 1) number ∙ add-one e
+
+      next-past : e < 65535 → W H .Laws (suc e) → Past H (suc e)
+      unfolding advance
+      next-past l w =
+          record {
+            count = ap (λ s. s .day .count) next ∙ A .count;
+            sizes = λ t l. by-cases (ℕ-discrete t (suc e))
+                (λ x.
+                ap (λ k. length (H k .table)) x ∙ ap (λ s. length (s .table)) next ∙ length-set (H e .table) (d - 1) p
+                ∙ A .sizes e (omega arith))
+                (λ x. A .sizes t (omega arith));
+            laws = w;
+            limit = l;
+          }
+
+      words-stay : M .value p ≡ M .value (processAt M H (d - 1) e) → words (H (suc e)) ≡ words (H e)
+      unfolding advance
+      words-stay q = ap words next ∙ map-set-same (M .value) (H e .table) (d - 1) p (M .noProcess) q
+
+      words-change : (v : M .Value) → M .value p ≡ v → words (H (suc e)) ≡ set (words (H e)) (d - 1) v
+      unfolding advance
+      words-change v q =
+          ap words next ∙ map-set (M .value) (H e .table) (d - 1) p ∙ ap (λ v. set (words (H e)) (d - 1) v) q
+
+      own-tied : (c : Option Call) → W H .Tie (suc e) (d - 1) p c → tied H (suc e) (d - 1) c
+      own-tied c t = subst (λ q. W H .Tie (suc e) (d - 1) q c) (sym (event .own)) t
+
+      others-tied : (j : ℕ) → j < n → j ≢ d - 1 → (c : Option Call) → tied H e j c → tied H (suc e) j c
+      others-tied j b h c t =
+          subst (λ q. W H .Tie (suc e) j q c) (sym (event .other j h)) (W H .waits e (d - 1) p (A .laws) event j c b h t)
+
+      -- its turn is a deed, as `Owed` asks
+      turn-deed : (c : Call) (page : List ℕ) {a : Answer} → open-call (d - 1) ≡ some c →
+          TurnDeed M n H (W H .Tie (suc e) (d - 1) p) e (d - 1) c p page a →
+          Deed (method M n) tied H e open-call (M .shown n (take (M .pageLength n) page)) (turn d) a
+      turn-deed c page is (turn-reads v t) = read-deed d c m is (words-stay v) (own-tied (some (gains c)) t)
+      turn-deed c page is (turn-pages lender at turns job count good v t) =
+          page-deed d c lender at turns m is job count
+          (good .true ∙ sym (table-shows H at (A .sizes at (good .early)))) (good .late) (good .early)
+          (words-stay v) (own-tied none t)
+      turn-deed c page is (turn-writes w turns job count v t) =
+          write-deed d c (job .0) w turns m is (job .2) count
+          (words-change (M .stored (suc e) w) v ∙ ap (λ i. set (words (H e)) i (M .stored (suc e) w)) (sym (job .1)))
+          (own-tied none t)
+
+    -- what `Owed` asks of an accepted item, its result given
+    abbrev Acts : Seen → Result (State (M .Process)) → Type 0
+    Acts x r =
+        H (suc e) ≡ r .state →
+        Past H (suc e)
+        × (H (suc e) .day .event ≡ suc e)
+        × ((i : ℕ) → i < n → i ≢ actor x → (c : Option Call) → tied H e i c → tied H (suc e) i c)
+        × Deed (method M n) tied H e open-call (M .shown n (take (M .pageLength n) (r .page))) x (r .answer)
+
+    -- the result of an item that leaves process d the record p
+    abbrev leaves : ℕ → M .Process → Answer → List ℕ → Result (State (M .Process))
+    leaves d p a page = record { state = advance M (H e) d p; answer = a; page = page }
+
+    call-acts : (d : ℕ) (j : Job) → Owns (d - 1) j → firstCause (callCauses M (H e) d) ≡ none →
+        Acts (call d j) (record { state = calledBy M (H e) d j; answer = Called; page = [] })
+    unfolding calledBy
+    call-acts d j o q =
+        let p = processAt M H (d - 1) e in
+        let ok = accepted d false (not (M .isIdle p), Busy) q in
+        subst (λ k. Acts (call d j) (leaves d (M .called k j p) Called [])) (sym (A .count))
+        (go ok (open-call (d - 1)) refl (T (d - 1) (let a = ok .among in omega arith)))
+      where
+        go : Accepted d (not (M .isIdle (processAt M H (d - 1) e)), Busy) → (b : Option Call) → open-call (d - 1) ≡ b →
+            tied H e (d - 1) b → Acts (call d j) (leaves d (M .called n j (processAt M H (d - 1) e)) Called [])
+        go ok (some c) is t next =
+            let p = processAt M H (d - 1) e in
+            absurd (true≢false (sym (not-false (M .isIdle p) (ok .right)) ∙ W H .idle e (d - 1) p (some c) t))
+        go ok none is t next =
+            let p = M .called n j (processAt M H (d - 1) e) in
+            let m = ok .among in
+            let w = W H .calls e (d - 1) j o (A .laws) t (event d p m next) in (
+              next-past d p m next (ok .room) (w .0),
+              next-event d p m next,
+              others-tied d p m next,
+              call-deed d j m is (words-stay d p m next (w .1)) (own-tied d p m next (some (opens (suc e) j)) (w .2)),
+            )
+
+    turn-is : (d : ℕ) (page : List ℕ) → turnBy M (H e) d page ≡ turnAt M n H (d - 1) e page
+    unfolding turnBy
+    turn-is d page =
+        let p = processAt M H (d - 1) e in
+        ap₂ (λ k t. M .turned k (d - 1) t (readFrom M (H e .table) (M .reads k p)) page p) (A .count)
+        (ap (λ t. t + 1) number ∙ add-one e)
+
+    turn-acts : (d : ℕ) (page : List ℕ) → firstCause (turnCauses M (H e) d page) ≡ none →
+        let r = turnAt M n H (d - 1) e page in
+        Acts (turn d) (leaves d (r .state) (r .answer) (r .page))
+    turn-acts d page q =
+        let ok = accepted d (ltb (length page) (M .pageLength (H e .day .count))) (M .isIdle (processAt M H (d - 1) e), Idle) q in
+        go ok (open-call (d - 1)) refl (T (d - 1) (let a = ok .among in omega arith))
+      where
+        r : Result (M .Process)
+        r = turnAt M n H (d - 1) e page
+
+        go : Accepted d (M .isIdle (processAt M H (d - 1) e), Idle) → (b : Option Call) → open-call (d - 1) ≡ b →
+            tied H e (d - 1) b → Acts (turn d) (leaves d (r .state) (r .answer) (r .page))
+        go ok none is t next = absurd (true≢false (sym (W H .idle e (d - 1) (processAt M H (d - 1) e) none t) ∙ ok .right))
+        go ok (some c) is t next =
+            let m = ok .among in
+            let w = W H .turns e (d - 1) page c (A .laws) t (event d (r .state) m next) in (
+              next-past d (r .state) m next (ok .room) (w .0),
+              next-event d (r .state) m next,
+              others-tied d (r .state) m next,
+              turn-deed d (r .state) m next c (r .page) is (w .1),
+            )
+
+    item-acts : (x : Item) → refusal M (H e) x ≡ none → Acts (sees x) (accept M (H e) x)
+    unfolding refusal accept
+    item-acts (openFor c) q = absurd (Option·some-ne-none OpenState (sym (open-refused c) ∙ q))
+    item-acts (updateCall d w) q = call-acts d (update d w) refl q
+    item-acts (scanCall d) q = call-acts d scan tt q
+    item-acts (turnOf d page) q =
+        subst (λ r. Acts (turn d) (leaves d (r .state) (r .answer) (r .page))) (sym (turn-is d page))
+        (turn-acts d page q)
+
+  -- ---- the theorem
+
+  owed : Owed (method M n)
+  owed =
+      record {
+        Past = Past;
+        Tied = tied;
+        patient = λ H e i c b A t. W H .patient e i c b (A .laws) t;
+        refuses = λ H e x k open-call A number T q. refused-fits H e open-call A number T x k q;
+        acts = λ H e x open-call A number T q next. item-acts H e open-call A number T x q next;
+      }
+
+  module _ (H : ℕ → State (M .Process)) (first : H 0 ≡ openedFor M n) where
+    first-process : (j : ℕ) → j < n → processAt M H j 0 ≡ M .zeroProcess
+    unfolding openedFor
+    first-process j b = ap (λ s. getD (s .table) j (M .noProcess)) first ∙ getD-replicate n j (M .zeroProcess) (M .noProcess) b
+
+    first-past : Past H 0
+    unfolding openedFor
+    first-past =
+        record {
+          count = ap (λ s. s .day .count) first;
+          sizes = λ t l. ap (λ k. length (H k .table)) (omega arith) ∙ ap (λ s. length (s .table)) first
+              ∙ length-replicate n (M .zeroProcess);
+          laws = W H .laws-start first-process;
+          limit = omega arith;
+        }
+
+    first-tied : (i : ℕ) → i < n → tied H 0 i none
+    first-tied i b = subst (λ p. W H .Tie 0 i p none) (sym (first-process i b)) (W H .tie-start i b)
+
+  -- demand 3: a day just opened for n, from 1 to 8, and every list of items on it
+  pub demand3 : (items : List Item) → Holds (method M n) (openedFor M n) (started n n (M .value (M .zeroProcess))) items
+  unfolding openedFor owed
+  demand3 =
+      holds (method M n) owed (openedFor M n) n (M .value (M .zeroProcess))
+      (record { past = first-past; tied = first-tied; number = refl; words = map-replicate (M .value) n (M .zeroProcess) })
+
+-- what an accepted opening leaves, whatever the day and the table held, is the day just opened for its count, from 1 to 8
+pub opening-opens : (M : Machine) (s : State (M .Process)) (k : ℕ) → refusal M s (openFor k) ≡ none →
+    (accept M s (openFor k) .state ≡ openedFor M k) × (0 < k) × (k ≤ 8)
+unfolding refusal accept openedBy openedFor
+opening-opens M s k q =
+    let w = accepted-passes (openingCauses M s k) q in
+    let size = eqb-true (length (s .table)) k (not-false (eqb (length (s .table)) k) (w .1 .1 .0)) in
+    let range = outside-among 8 k (w .1 .0) in (
+      ap (λ ps. record { day = record { count = k; event = 0 }; table = ps })
+          (map-constant (M .zeroProcess) (s .table) ∙ ap (λ m. replicate m (M .zeroProcess)) size),
+      range .0,
+      range .1,
+    )
+
+-- demand 3 after any accepted opening, whatever the day and the table held before it
+pub demand3-after-opening : (M : Machine) (s : State (M .Process)) (n : ℕ) →
+    (0 < n → n ≤ 8 → (H : ℕ → State (M .Process)) → Works M n H) → refusal M s (openFor n) ≡ none → (items : List Item) →
+    Holds (method M n) (step (method M n) s (openFor n) .state) (started n n (M .value (M .zeroProcess))) items
+unfolding step
+demand3-after-opening M s n W q items =
+    let w = opening-opens M s n q in
+    subst (λ r. Holds (method M n) r (started n n (M .value (M .zeroProcess))) items)
+    (sym (ap (λ k. admit (method M n) s (openFor n) k .state) q ∙ w .0)) (demand3 M n (W (w .1) (w .2)) (w .1) (w .2) items)
