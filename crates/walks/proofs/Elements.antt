@@ -17,14 +17,15 @@ use prog.Wp.{Heap, Calls, Loops, spotOf}
 use ghost.Atoms.{Atoms}
 use contract.Monad.{fact}
 use types.Kit.{Given, Item, Post, Seq, ‵, _⊛_, _$_, runs, use1, use2, split, move, drop, fsplit}
-use types.Run.{Rv, look-raw, stop, hop, fld, from, load, lit, of-opd, bin, addr}
+use types.Run.{Rv, assigns, look-raw, store-raw, stop, hop, fld, from, load, lit, of-opd, bin, addr}
 use types.Part.{sub, look-in}
 use denote.RattleType.{Denots}
 use denote.Laws.{Is, shows}
 use denote.Memory.{mem, shares, partAt}
 use denote.Slice.{Room, sliceTy, sliceVal, shr-slice-copy}
-use denote.Index.{row, place-is, others, takes, puts, elem-out, elem-back, looks-slice, shuts-slice}
+use denote.Index.{row, place-is, others, takes, puts, elem-out, elem-back, elem-put, looks-slice, shuts-slice}
 use denote.Index.{place as place-of}
+use denote.Steps.{owned}
 use Rattle.walks.proofs.Data.{Datum, Of, type-of, Fine, a-usize}
 use Rattle.walks.proofs.Frames.{frame, local-reads}
 use Rattle.walks.proofs.Params.{Cell, holds, fat, thin, spellOf, spelt, Ts}
@@ -86,6 +87,22 @@ module _ {M : Type 1} {𝓤 : URA M} {H : Heap 𝓤} {A : Atoms 𝓤} {K : Type 
           move t (1 ∷ 2 ∷ 3 ∷ []) $ elem-back t Y q′ ys i d (X .spell (getD ys i d) ∷ []) b o l $ move t (0 ∷ 2 ∷ []) $ shuts-slice t tt Y q′ ys b o $
           -- [the token; the frame; the borrow; the reference]
           move t (2 ∷ []) $ drop t $ move t (1 ∷ 0 ∷ 2 ∷ []) $ go is .seq)) }
+
+  -- `*e = x;`, where e points at element i of an open slice
+  pub stores-element : K → (X : Datum) (b o : ℕ) (ys : List (Of X)) (i : ℕ) (y : Of X) {j k : ℕ} {is : Fine X y} → i < length ys → cellAt cs j ≡ thin b (place-of (bytes X) o i) → cellAt cs k ≡ holds X y is →
+      T (inside E j && inside E k) →
+      Way K W E cs (‵ (row (type-of X) fullShare (set ys i y) b o) ∷ Γ) (runs C Λ E rest q) cs (‵ (row (type-of X) fullShare ys b o) ∷ Γ)
+      (runs C Λ E (seq (assign (place j (deref (X .ty) ∷ [])) (rvOpd (copy (place k [])))) rest) q)
+  stores-element t X b o ys i y {j} {k} {is} l at-j at-k ok =
+      let w = both-true (inside E j) (inside E k) ok in
+      let Y = type-of X in
+      record { go = λ s. record { seq =
+          move t (1 ∷ []) $ elem-out t Y (Is Y) (shows 𝓤 H A Y) (λ z. X .spell z ∷ []) (X .tells) fullShare ys i y b o l (λ _. move t (1 ∷ []) $ drop t $
+          -- [the element; the others; the frame]
+          move t (2 ∷ []) $ assigns t (of-opd t (read-one t 0 E cs refl k (X .spell y) (w .1) (ap spellOf at-k)))
+          (from t (hop t (local-reads 𝓤 H A W E (spelt cs) _ K 0 j (vptr b (place-of (bytes X) o i)) refl (is-inside E j (w .0)) (spelt-at cs j ∙ ap spellOf at-j)) (stop t)))
+          (store-raw t 1 refl (X .laws 𝓤 H A W .typed y (X .spell y ∷ []) is .0)) $
+          owned t Y (Is Y) (X .makes 𝓤 H A W) y (X .spell y ∷ []) is $ move t (2 ∷ 0 ∷ 3 ∷ []) $ elem-put t Y fullShare ys i y (X .spell y ∷ []) b o l $ move t (1 ∷ []) $ s .seq) } }
 
 -- ---- element i of an open slice, lent to a callee, which leaves y in it
 

@@ -59,7 +59,7 @@ module _ {M : Type 1} {𝓤 : URA M} where
 -- ---- one local of a frame, and what is beside it
 
 module _ {M : Type 1} (𝓤 : URA M) (H : Heap 𝓤) (A : Atoms 𝓤) where
-  abbrev framed : List (Ty × ℕ) → List (Option Val) → SProp 𝓤
+  abbrev pub framed : List (Ty × ℕ) → List (Option Val) → SProp 𝓤
   framed E vs = mean 𝓤 H A (frame E vs)
 
   abbrev at : Ty × ℕ → Option Val → SProp 𝓤
@@ -100,7 +100,7 @@ module _ {M : Type 1} (𝓤 : URA M) (H : Heap 𝓤) (A : Atoms 𝓤) where
       via 𝓤 (sep 𝓤 P (sep 𝓤 (at (getD E k none-such) v) (beside E vs k))) (past (at (getD E k none-such) v) P (beside E vs k)) (monoR 𝓤 P (put-back E vs k v h))
 
   -- the room of a cell, whatever it holds
-  as-room : Given 𝓤 H A → (e : Ty × ℕ) (v : Option Val) → ent 𝓤 (at e v) (H .room (e .0) (e .1) zero)
+  pub as-room : Given 𝓤 H A → (e : Ty × ℕ) (v : Option Val) → ent 𝓤 (at e v) (H .room (e .0) (e .1) zero)
   as-room W e none = id⊢ 𝓤 (H .room (e .0) (e .1) zero)
   as-room W e (some v) = W .laws .at-room (e .0) (e .1) zero v
 

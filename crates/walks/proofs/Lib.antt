@@ -11,4 +11,7 @@ pub mod Ends
 pub mod Contracts
 pub mod Owned
 pub mod Elements
+pub mod Loops
+pub mod Folds
+pub mod Fills
 
