@@ -88,6 +88,13 @@ module _ {M : Type 1} {𝓤 : URA M} {H : Heap 𝓤} {A : Atoms 𝓤} {K : Type 
           -- [the token; the frame; the borrow; the reference]
           move t (2 ∷ []) $ drop t $ move t (1 ∷ 0 ∷ 2 ∷ []) $ go is .seq)) }
 
+  -- `&mut *e`
+  pub lends-element : K → (X : Datum) {j k b o : ℕ} → cellAt cs j ≡ thin b o → T (inside E j && inside E k) × T (hasTy (spotOf 𝓤 H E k .0) (vptr b o)) →
+      Way K W E (putAt cs k (thin b o)) Γ (runs C Λ E rest q) cs Γ (runs C Λ E (seq (assign (place k []) (addrOf (place j (deref (X .ty) ∷ [])))) rest) q)
+  lends-element t X {j} {k} {b} {o} c ok =
+      let w = both-true (inside E j) (inside E k) (ok .0) in
+      record { go = now-holds t (thin b o) (addr t (from t (hop t (local-reads 𝓤 H A W E (spelt cs) (frame E (spelt cs) ∷ Γ) K 0 j (vptr b o) refl (is-inside E j (w .0)) (spelt-at cs j ∙ ap spellOf c)) (stop t)))) (w .1) refl (ok .1, tt) }
+
   -- `*e = x;`, where e points at element i of an open slice
   pub stores-element : K → (X : Datum) (b o : ℕ) (ys : List (Of X)) (i : ℕ) (y : Of X) {j k : ℕ} {is : Fine X y} → i < length ys → cellAt cs j ≡ thin b (place-of (bytes X) o i) → cellAt cs k ≡ holds X y is →
       T (inside E j && inside E k) →

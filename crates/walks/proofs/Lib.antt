@@ -14,4 +14,6 @@ pub mod Elements
 pub mod Loops
 pub mod Folds
 pub mod Fills
+pub mod ElementRead
+pub mod Walking
 

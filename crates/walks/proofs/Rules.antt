@@ -140,8 +140,34 @@ module _ {M : Type 1} {𝓤 : URA M} {H : Heap 𝓤} {A : Atoms 𝓤} {K : Type 
       calls t (κ, tt) (p, tt) (one-shared X) (at-place b o γ ys, tt) (((refl, fits), (tt, tt)), tt) 1 E cs (‵ (shared-own (type-of X) κ b o γ ys) ∷ frame E (spelt cs) ∷ Γ) refl (ok .0 .0) (ok .1) g asks (λ r ws. φ r) says (λ r ws e is.
       token-out t κ p $ move t (2 ∷ 0 ∷ 1 ∷ []) $ lands-in t cs D k (ok .0 .1) (ok .0 .2) r is (go r e is)) }
 
+  -- and by a callee that says what its answer is
+  pub calls-passed-is : K → (X : Datum) (κ : Lft) (p : Share) (b o : ℕ) (γ : GName) (ys : List (Of X)) → Room (type-of X) (length ys) →
+      let κs : Lfts 1 = (κ, tt) in
+      let xs : Denots (Ts κs (one-shared X)) = (at-place b o γ ys, tt) in
+      (g : Callee W C f 1 (params (one-shared X) (picked cs os)) D) (s : Of D) → Ready 𝓤 H E os k D × Links κs (one-shared X) xs (picked cs os) →
+      ent 𝓤 (emp 𝓤) (Asks g κs (args κs (one-shared X) xs (picked cs os))) →
+      ((r : Of D) (ws : Lasting κs (one-shared X) xs cs os) → ent 𝓤 (Says g κs (args κs (one-shared X) xs (picked cs os)) r ws) (fact 𝓤 (r ≡ s))) →
+      ((is : Fine D s) → Here K W E (putAt cs k (holds D s is)) (‵ (flft κ p) ∷ ‵ (shared-own (type-of X) κ b o γ ys) ∷ Γ) (runs C Λ E rest q)) →
+      Here K W E cs (‵ (flft κ p) ∷ ‵ (shared-own (type-of X) κ b o γ ys) ∷ Γ) (runs C Λ E (seq (call f os (place k [])) rest) q)
+  calls-passed-is t X κ p b o γ ys fits g s ok asks says go =
+      calls-passed t X κ p b o γ ys fits g ok asks (λ r. r ≡ s) says (λ r e.
+      subst (λ (z : Of D). (is : Fine D z) → Here K W E (putAt cs k (holds D z is)) (‵ (flft κ p) ∷ ‵ (shared-own (type-of X) κ b o γ ys) ∷ Γ) (runs C Λ E rest q)) (sym e) go)
+
   -- the places of an open slice, as a `&[X]`
   pub calls-shared : K → (X : Datum) (b o : ℕ) (ys : List (Of X)) → Room (type-of X) (length ys) →
+      (g : Callee W C f 1 (params (one-shared X) (picked cs os)) D) (φ : Of D → Type 0) → Ready 𝓤 H E os k D →
+      let xs : (α : ℕ) → GName → Denots (Ts (lifetime α) (one-shared X)) = λ α δ. (at-place b o δ ys, tt) in
+      ((α : ℕ) (δ : GName) → Links (lifetime α) (one-shared X) (xs α δ) (picked cs os)) →
+      ((α : ℕ) (δ : GName) → ent 𝓤 (emp 𝓤) (Asks g (lifetime α) (args (lifetime α) (one-shared X) (xs α δ) (picked cs os)))) →
+      ((α : ℕ) (δ : GName) (r : Of D) (ws : Lasting (lifetime α) (one-shared X) (xs α δ) cs os) → ent 𝓤 (Says g (lifetime α) (args (lifetime α) (one-shared X) (xs α δ) (picked cs os)) r ws) (fact 𝓤 (φ r))) →
+      ((r : Of D) → φ r → (is : Fine D r) → Here K W E (putAt cs k (holds D r is)) (‵ (row (type-of X) fullShare ys b o) ∷ Γ) (runs C Λ E rest q)) →
+      Here K W E cs (‵ (row (type-of X) fullShare ys b o) ∷ Γ) (runs C Λ E (seq (call f os (place k [])) rest) q)
+  calls-shared t X b o ys fits g φ ok links asks says go = record { seq =
+      move t (1 ∷ 0 ∷ []) $ lends-shared t tt (type-of X) b o ys fits (λ α δ. token-in t $ move t (1 ∷ 0 ∷ []) $
+      calls t (lifetime α) (fullShare, tt) (one-shared X) (at-place b o δ ys, tt) (((refl, fits), (tt, tt)), tt) 1 E cs (‵ (owed-shared (type-of X) b o ys α) ∷ frame E (spelt cs) ∷ Γ) refl (ok .0) (links α δ) g (asks α δ) (λ r ws. φ r) (says α δ) (λ r ws e is.
+      token-out t (α ∷ []) fullShare $ shared-back t tt (type-of X) b o ys α $ move t (1 ∷ 0 ∷ []) $ lands-in t cs D k (ok .1) (ok .2) r is (go r e is))) }
+
+  pub calls-shared-is : K → (X : Datum) (b o : ℕ) (ys : List (Of X)) → Room (type-of X) (length ys) →
       (g : Callee W C f 1 (params (one-shared X) (picked cs os)) D) (s : Of D) → Ready 𝓤 H E os k D →
       let xs : (α : ℕ) → GName → Denots (Ts (lifetime α) (one-shared X)) = λ α δ. (at-place b o δ ys, tt) in
       ((α : ℕ) (δ : GName) → Links (lifetime α) (one-shared X) (xs α δ) (picked cs os)) →
@@ -149,11 +175,9 @@ module _ {M : Type 1} {𝓤 : URA M} {H : Heap 𝓤} {A : Atoms 𝓤} {K : Type 
       ((α : ℕ) (δ : GName) (r : Of D) (ws : Lasting (lifetime α) (one-shared X) (xs α δ) cs os) → ent 𝓤 (Says g (lifetime α) (args (lifetime α) (one-shared X) (xs α δ) (picked cs os)) r ws) (fact 𝓤 (r ≡ s))) →
       ((is : Fine D s) → Here K W E (putAt cs k (holds D s is)) (‵ (row (type-of X) fullShare ys b o) ∷ Γ) (runs C Λ E rest q)) →
       Here K W E cs (‵ (row (type-of X) fullShare ys b o) ∷ Γ) (runs C Λ E (seq (call f os (place k [])) rest) q)
-  calls-shared t X b o ys fits g s ok links asks says go = record { seq =
-      move t (1 ∷ 0 ∷ []) $ lends-shared t tt (type-of X) b o ys fits (λ α δ. token-in t $ move t (1 ∷ 0 ∷ []) $
-      calls t (lifetime α) (fullShare, tt) (one-shared X) (at-place b o δ ys, tt) (((refl, fits), (tt, tt)), tt) 1 E cs (‵ (owed-shared (type-of X) b o ys α) ∷ frame E (spelt cs) ∷ Γ) refl (ok .0) (links α δ) g (asks α δ) (λ r ws. r ≡ s) (says α δ) (λ r ws e is.
-      token-out t (α ∷ []) fullShare $ shared-back t tt (type-of X) b o ys α $ move t (1 ∷ 0 ∷ []) $ lands-in t cs D k (ok .1) (ok .2) r is
-      (subst (λ (z : Of D). (is : Fine D z) → Here K W E (putAt cs k (holds D z is)) (‵ (row (type-of X) fullShare ys b o) ∷ Γ) (runs C Λ E rest q)) (sym e) go is))) }
+  calls-shared-is t X b o ys fits g s ok links asks says go =
+      calls-shared t X b o ys fits g (λ r. r ≡ s) ok links asks says (λ r e.
+      subst (λ (z : Of D). (is : Fine D z) → Here K W E (putAt cs k (holds D z is)) (‵ (row (type-of X) fullShare ys b o) ∷ Γ) (runs C Λ E rest q)) (sym e) go)
 
   -- as a `&mut [X]`, which the callee leaves with us in it
   pub calls-lent : K → (X : Datum) (b o : ℕ) (ys us : List (Of X)) → Room (type-of X) (length ys) →
