@@ -1,10 +1,3 @@
--- What the proofs of the functions over a lent table share.
-pub mod Steps
-pub mod Tables
-pub mod Requested
-pub mod Walks
-pub mod Fields
-pub mod Calls
-pub mod Turning
-pub mod Stepping
-pub mod LocalTable
+-- What only proofs need: the facts that walks cite, and the types that they carry.
+pub mod Types
+pub mod Accepted

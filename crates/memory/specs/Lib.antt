@@ -1,4 +1,3 @@
 -- What the functions over a lent table of process records compute. Read in this order.
-pub mod Steps
 pub mod Tables
-pub mod Requests
+pub mod Turning

@@ -1,6 +1,3 @@
 // The table of process records, lent to every call and turn, for Figure 3's method (crate `unbounded`).
-mod arrays;
-mod checks;
-mod requests;
+mod elements;
 pub mod table;
-mod turns;

@@ -27,9 +27,9 @@ module _ {M : Type 1} (𝓤 : URA M) (H : Heap 𝓤) (𝓜 : Model 𝓤 H) (𝓖
   table-frames = fmOf 𝓤 H (givenOf 𝓤 H 𝓜 𝓖 .laws) (tablesOf 𝓤 H 𝓜 (tables 𝓤 H 𝓜 𝓡 γ))
 
   -- the routine r that the code calls f, by its theorem; it gives a D
-  abbrev pub callee : {f : Name} {r : Routine} {n : ℕ} {ps : List (Param n)} (D : Datum) → γ f ≡ r → (c : Clauses 𝓤 (ended ps D)) → ((κs : Lfts n) (a : Denots (Ts κs ps)) → c κs a .ghost) →
+  abbrev pub callee : {f : Name} {r : Routine} {n : ℕ} (ps : List (Param n)) (D : Datum) → γ f ≡ r → (c : Clauses 𝓤 (ended ps D)) → ((κs : Lfts n) (a : Denots (Ts κs ps)) → c κs a .ghost) →
       Meets 𝓤 H (𝓖 .A) (ended ps D .signature) (𝓡 .run r) (closing 𝓤 H (𝓖 .A) (ended ps D) c) → Callee (givenOf 𝓤 H 𝓜 𝓖) (tables 𝓤 H 𝓜 𝓡 γ .C) f n ps D
-  callee {f} {r} {n} {ps} D e c ghost met =
+  callee {f} {r} {n} ps D e c ghost met =
       record {
         clauses = c;
         ghost = ghost;
@@ -58,7 +58,10 @@ module _ {M : Type 1} (𝓤 : URA M) where
       let P = sep 𝓤 (fact 𝓤 ψ) (fact 𝓤 χ) in
       via 𝓤 (sep 𝓤 (emp 𝓤) P) (via 𝓤 P (two-given y z) (emp∗ 𝓤 P)) (monoL 𝓤 P (given x))
 
-  -- and that are said
+  -- and that are said, or the first alone
+  pub first-said : {φ ψ : Type 0} → ent 𝓤 (sep 𝓤 (fact 𝓤 φ) (fact 𝓤 ψ)) (fact 𝓤 φ)
+  first-said {φ} {ψ} = fst∗ 𝓤 (fact 𝓤 φ) (fact 𝓤 ψ)
+
   pub two-said : {φ ψ : Type 0} → ent 𝓤 (sep 𝓤 (fact 𝓤 φ) (fact 𝓤 ψ)) (fact 𝓤 (φ × ψ))
   two-said {φ} {ψ} =
       let P = sep 𝓤 (fact 𝓤 φ) (fact 𝓤 ψ) in

@@ -12,7 +12,7 @@ use mir.Val.{Val, vunit, vbool, vint, vptr, WT, hasTy}
 use prog.Memory.{fieldOf}
 use prog.Wp.{Heap, Calls, Loops, Wp, spotOf, afterSeq}
 use ghost.Atoms.{Atoms}
-use types.Kit.{Given, Item, Post, Seq, Step, step, _$_, runs, anyQ, post}
+use types.Kit.{Given, Goal, Item, Post, Seq, Step, step, _$_, runs, anyQ, post, move}
 use types.Run.{Finds, Opd, Rv, stop, hop, fld, from, load, of-opd, addr, and-then, no-more, assigns, unit-lit, first, branches, skips}
 use types.Part.{Part, sub, agg, look-in}
 use denote.Slice.{sliceTy, sliceVal}
@@ -97,3 +97,8 @@ module _ {M : Type 1} {𝓤 : URA M} {H : Heap 𝓤} {A : Atoms 𝓤} {K : Type 
       Here K W E cs Γ (runs C Λ E (seq (cond (copy (place j [])) arm skip) rest) q)
   if-leaves t {j} {y} c h held failed = record { seq =
       first t $ branches t (read-one t 0 E cs refl j (vbool y) h (ap spellOf c)) (λ z. held z .seq) (λ z. skips t $ record { prf = failed z .seq .prf }) }
+
+module _ {M : Type 1} {𝓤 : URA M} {H : Heap 𝓤} {A : Atoms 𝓤} {K : Type 0} {W : Given 𝓤 H A} {E : List (Ty × ℕ)} {cs : List Cell} {Γ : List (Item 𝓤)} {G : Goal 𝓤 H} where
+  -- what is owned second comes first
+  pub swaps : K → {i j : Item 𝓤} → Way K W E cs (j ∷ i ∷ Γ) G cs (i ∷ j ∷ Γ) G
+  swaps t = record { go = λ s. record { seq = move t (0 ∷ 2 ∷ []) $ s .seq } }

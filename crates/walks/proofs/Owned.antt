@@ -154,18 +154,18 @@ field-of X F j f = subst (λ (τ : Ty). fieldOf τ j ≡ some (F .ty, offsetOf X
 
 module _ {M : Type 1} {𝓤 : URA M} {H : Heap 𝓤} {A : Atoms 𝓤} {K : Type 0} {W : Given 𝓤 H A} {C : Calls 𝓤 H} {Λ : Loops 𝓤 H} {E : List (Ty × ℕ)} {cs : List Cell} {Γ : List (Item 𝓤)} {q : Post 𝓤 H} {rest : Body} where
   -- `x = *p;`
-  pub reads-whole : K → (X : Datum) {j k b o : ℕ} {x : Of X} (is : Fine X x) → cellIn cs j ≡ thin b o → T (inside E j && inside E k) × (X .ty ≡ spotOf 𝓤 H E k .0) →
+  pub reads-whole : K → (X : Datum) (x : Of X) {j k b o : ℕ} (is : Fine X x) → cellIn cs j ≡ thin b o → T (inside E j && inside E k) × (X .ty ≡ spotOf 𝓤 H E k .0) →
       Way K W E (putAt cs k (holds X x is)) (stands X b o x ∷ Γ) (runs C Λ E rest q) cs (stands X b o x ∷ Γ) (runs C Λ E (seq (assign (place k []) (rvOpd (copy (place j (deref (X .ty) ∷ []))))) rest) q)
-  reads-whole t X {j} {k} {b} {o} {x} is c ok =
+  reads-whole t X x {j} {k} {b} {o} is c ok =
       let w = both-true (inside E j) (inside E k) (ok .0) in
       record { go = now-holds t (holds X x is)
           (of-opd t (load t (from t (hop t (local-reads 𝓤 H A W E (spelt cs) (frame E (spelt cs) ∷ stands X b o x ∷ Γ) K 0 j (vptr b o) refl (is-inside E j (w .0)) (spelt-at cs j ∙ ap spellOf c)) (stop t))) (look t 1 refl)))
           (w .1) refl (fits-local 𝓤 H A W X (spotOf 𝓤 H E k .0) (ok .1) x is) }
 
   -- `*p = x;`
-  pub stores-whole : K → (X : Datum) {j k b o : ℕ} {x y : Of X} {is : Fine X y} → cellIn cs j ≡ thin b o → cellIn cs k ≡ holds X y is → T (inside E j && inside E k) →
+  pub stores-whole : K → (X : Datum) (x : Of X) {j k b o : ℕ} {y : Of X} {is : Fine X y} → cellIn cs j ≡ thin b o → cellIn cs k ≡ holds X y is → T (inside E j && inside E k) →
       Way K W E cs (stands X b o y ∷ Γ) (runs C Λ E rest q) cs (stands X b o x ∷ Γ) (runs C Λ E (seq (assign (place j (deref (X .ty) ∷ [])) (rvOpd (copy (place k [])))) rest) q)
-  stores-whole t X {j} {k} {b} {o} {x} {y} {is} c d ok =
+  stores-whole t X x {j} {k} {b} {o} {y} {is} c d ok =
       let w = both-true (inside E j) (inside E k) ok in
       record { go = λ s. record { seq =
           assigns t (of-opd t (read-one t 0 E cs refl k (X .spell y) (w .1) (ap spellOf d)))
@@ -173,9 +173,9 @@ module _ {M : Type 1} {𝓤 : URA M} {H : Heap 𝓤} {A : Atoms 𝓤} {K : Type 
           (store t 1 refl (X .laws 𝓤 H A W .typed y (X .spell y ∷ []) is .0)) $ s .seq } }
 
   -- `x = p.f;`
-  pub reads-field : K → (X F : Datum) {i : ℕ} (f : Field X F i) {j k b o : ℕ} {x : Of X} (is : Fine X x) → cellIn cs j ≡ thin b o → T (inside E j && inside E k) × (F .ty ≡ spotOf 𝓤 H E k .0) →
+  pub reads-field : K → (X F : Datum) {i : ℕ} (f : Field X F i) (x : Of X) {j k b o : ℕ} (is : Fine X x) → cellIn cs j ≡ thin b o → T (inside E j && inside E k) × (F .ty ≡ spotOf 𝓤 H E k .0) →
       Way K W E (putAt cs k (holds F (f .get x) (f .fine-get x is))) (stands X b o x ∷ Γ) (runs C Λ E rest q) cs (stands X b o x ∷ Γ) (runs C Λ E (seq (assign (place k []) (rvOpd (copy (place j (deref (X .ty) ∷ field i ∷ []))))) rest) q)
-  reads-field t X F {i} f {j} {k} {b} {o} {x} is c ok =
+  reads-field t X F {i} f x {j} {k} {b} {o} is c ok =
       let w = both-true (inside E j) (inside E k) (ok .0) in
       record { go = now-holds t (holds F (f .get x) (f .fine-get x is))
           (of-opd t (load t (from t (hop t (local-reads 𝓤 H A W E (spelt cs) (frame E (spelt cs) ∷ stands X b o x ∷ Γ) K 0 j (vptr b o) refl (is-inside E j (w .0)) (spelt-at cs j ∙ ap spellOf c)) (fld t (field-of X F i f) (stop t))))
@@ -183,9 +183,9 @@ module _ {M : Type 1} {𝓤 : URA M} {H : Heap 𝓤} {A : Atoms 𝓤} {K : Type 
           (w .1) refl (fits-local 𝓤 H A W F (spotOf 𝓤 H E k .0) (ok .1) (f .get x) (f .fine-get x is)) }
 
   -- `p.f = y;`
-  pub stores-field : K → (X F : Datum) {i : ℕ} (f : Field X F i) {j k b o : ℕ} {x : Of X} {y : Of F} {is : Fine F y} → cellIn cs j ≡ thin b o → cellIn cs k ≡ holds F y is → T (inside E j && inside E k) →
+  pub stores-field : K → (X F : Datum) {i : ℕ} (f : Field X F i) (x : Of X) {j k b o : ℕ} {y : Of F} {is : Fine F y} → cellIn cs j ≡ thin b o → cellIn cs k ≡ holds F y is → T (inside E j && inside E k) →
       Way K W E cs (stands X b o (f .with y x) ∷ Γ) (runs C Λ E rest q) cs (stands X b o x ∷ Γ) (runs C Λ E (seq (assign (place j (deref (X .ty) ∷ field i ∷ [])) (rvOpd (copy (place k [])))) rest) q)
-  stores-field t X F {i} f {j} {k} {b} {o} {x} {y} {is} c d ok =
+  stores-field t X F {i} f x {j} {k} {b} {o} {y} {is} c d ok =
       let w = both-true (inside E j) (inside E k) ok in
       record { go = λ s. record { seq =
           assigns t (of-opd t (read-one t 0 E cs refl k (F .spell y) (w .1) (ap spellOf d)))

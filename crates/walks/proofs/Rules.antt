@@ -78,6 +78,15 @@ module _ {M : Type 1} {𝓤 : URA M} {H : Heap 𝓤} {A : Atoms 𝓤} {K : Type 
   gets t g s ok asks says go =
       gets-some t g ok asks (λ r. r ≡ s) says (λ r e. subst (λ (z : Of D). (is : Fine D z) → Here K W E (putAt cs k (holds D z is)) Γ (runs C Λ E rest q)) (sym e) go)
 
+  -- or that says besides that ψ holds of it
+  pub gets-also : K → (g : Callee W C f 0 (params no-refs (picked cs os)) D) (s : Of D) → Ready 𝓤 H E os k D × Links no-lifetimes no-refs tt (picked cs os) →
+      ent 𝓤 (emp 𝓤) (Asks g no-lifetimes (args no-lifetimes no-refs tt (picked cs os))) → (ψ : Of D → Type 0) →
+      ((r : Of D) (ws : Fins no-lifetimes (slots (params no-refs (picked cs os))) (kept (params no-refs (picked cs os))) (args no-lifetimes no-refs tt (picked cs os))) → ent 𝓤 (Says g no-lifetimes (args no-lifetimes no-refs tt (picked cs os)) r ws) (fact 𝓤 ((r ≡ s) × ψ r))) →
+      (ψ s → (is : Fine D s) → Here K W E (putAt cs k (holds D s is)) Γ (runs C Λ E rest q)) →
+      Here K W E cs Γ (runs C Λ E (seq (call f os (place k [])) rest) q)
+  gets-also t g s ok asks ψ says go =
+      gets-some t g ok asks (λ r. (r ≡ s) × ψ r) says (λ r e. subst (λ (z : Of D). ψ z → (is : Fine D z) → Here K W E (putAt cs k (holds D z is)) Γ (runs C Λ E rest q)) (sym (e .0)) go (e .1))
+
 -- ---- calls that are lent something
 
 -- one reference, of the lifetime α that is made for the call

@@ -1,0 +1,22 @@
+// What becomes of a request on a day, for every method that keeps one record a process: its refusals and its outcome. A method
+// looks at its own records and hands over what it found, a `Survey`; no function here sees a record.
+pub mod checks;
+pub mod outcomes;
+pub mod requests;
+pub mod words;
+
+use snapshot::Refusal;
+
+// What a look at every record of a table finds, with the limits that it looks by: the most reads of a scan, the event number, and
+// whether some record cannot have arisen.
+pub struct Survey {
+    pub most: u32,
+    pub event: u32,
+    pub bad: bool,
+}
+
+// Whether there is a refusal.
+pub enum Check {
+    Passed,
+    Refused(Refusal),
+}

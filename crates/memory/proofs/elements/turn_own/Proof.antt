@@ -1,0 +1,84 @@
+-- A turn that ends its task stores the register, then the record with nothing collected, then no task; any other the record as the read leaves it, then the task.
+use mathlib.Core.Path.{refl}
+use mathlib.Core.List.{List, [], _∷_}
+use Rattle.walks.proofs.Walking.{!, Param, value, own, a-bool, a-unit, thin, _▹_, begins-own, reads-whole, reads-field, gets, if-leaves}
+use Rattle.walks.proofs.Walking.{stores-whole, stores-field, unit-stored, ends-own, callee, given, asks-nothing, id⊢}
+use lib.Ieee.Bits.{is-true, is-false}
+use Rattle.unbounded.specs.Processes.{begin}
+use Rattle.unbounded.specs.declared.Task.the-variants.{Idle}
+use Rattle.unbounded_turns.specs.Steps.{readBy, writtenBy, endsBy, taskBy, withTask}
+use Rattle.unbounded_turns.proofs.Steps.{withRegister, state-ended, state-went-on}
+use Rattle.memory.specs.Turning.{Turning}
+use Rattle.memory.proofs.Types.{a-process, a-register, a-task, an-access, a-find, register-field, task-field}
+use Rattle.unbounded_turns.proofs.tasks.ends as ends
+use Rattle.unbounded_turns.proofs.tasks.ends.Met as ends-met
+use Rattle.unbounded_turns.proofs.records.written as written
+use Rattle.unbounded_turns.proofs.records.written.Met as written-met
+use Rattle.unbounded_turns.proofs.records.over as over
+use Rattle.unbounded_turns.proofs.records.over.Met as over-met
+use Rattle.unbounded_turns.proofs.tasks.idle as idle
+use Rattle.unbounded_turns.proofs.tasks.idle.Met as idle-met
+use Rattle.unbounded_turns.proofs.records.read as read
+use Rattle.unbounded_turns.proofs.records.read.Met as read-met
+use Rattle.unbounded_turns.proofs.tasks.task_after as after
+use Rattle.unbounded_turns.proofs.tasks.task_after.Met as after-met
+use Rattle.memory.proofs.elements.turn_own.Key.{name as #f}
+use Rattle.memory.proofs.elements.turn_own as f
+use Rattle.memory.proofs.elements.turn_own.Statement as stated
+use Rattle.memory.proofs.elements.turn_own.Code as code
+
+abbrev ps : List (Param 1)
+ps = own 0 tt a-process ∷ value an-access ∷ value a-register ∷ value a-find ∷ []
+
+pub turn-own-spec : {M : Type 1} → stated.statement M
+unfolding code.routine
+turn-own-spec 𝓤 H 𝓜 𝓖 𝓡 =
+    let c = f.clauses 𝓤 H (𝓖 .A) (𝓜 .mem) (𝓡 .run) in
+    let ends-is = callee 𝓤 H 𝓜 𝓖 𝓡 code.env (value a-task ∷ value a-find ∷ []) a-bool code.calls-unbounded-turns·tasks·ends
+        (ends.clauses 𝓤 H (𝓖 .A) (𝓜 .mem) (𝓡 .run)) (λ κs a. tt) (ends-met.met 𝓤 H 𝓜 𝓖 𝓡) in
+    let written-is = callee 𝓤 H 𝓜 𝓖 𝓡 code.env (value an-access ∷ value a-process ∷ []) a-register code.calls-unbounded-turns·records·written
+        (written.clauses 𝓤 H (𝓖 .A) (𝓜 .mem) (𝓡 .run)) (λ κs a. tt) (written-met.met 𝓤 H 𝓜 𝓖 𝓡) in
+    let over-is = callee 𝓤 H 𝓜 𝓖 𝓡 code.env (value an-access ∷ value a-process ∷ []) a-process code.calls-unbounded-turns·records·over
+        (over.clauses 𝓤 H (𝓖 .A) (𝓜 .mem) (𝓡 .run)) (λ κs a. tt) (over-met.met 𝓤 H 𝓜 𝓖 𝓡) in
+    let idle-is = callee 𝓤 H 𝓜 𝓖 𝓡 code.env [] a-task code.calls-unbounded-turns·tasks·idle
+        (idle.clauses 𝓤 H (𝓖 .A) (𝓜 .mem) (𝓡 .run)) (λ κs a. tt) (idle-met.met 𝓤 H 𝓜 𝓖 𝓡) in
+    let read-is = callee 𝓤 H 𝓜 𝓖 𝓡 code.env (value an-access ∷ value a-register ∷ value a-task ∷ value a-find ∷ value a-process ∷ []) a-process code.calls-unbounded-turns·records·read
+        (read.clauses 𝓤 H (𝓖 .A) (𝓜 .mem) (𝓡 .run)) (λ κs a. tt) (read-met.met 𝓤 H 𝓜 𝓖 𝓡) in
+    let after-is = callee 𝓤 H 𝓜 𝓖 𝓡 code.env (value a-task ∷ value a-find ∷ []) a-task code.calls-unbounded-turns·tasks·task-after
+        (after.clauses 𝓤 H (𝓖 .A) (𝓜 .mem) (𝓡 .run)) (λ κs a. tt) (after-met.met 𝓤 H 𝓜 𝓖 𝓡) in
+    thin ps a-unit 𝓤 H 𝓜 𝓖 𝓡 code.env c _ _ #f (code.unfolded 𝓤 H 𝓜 𝓡) (λ κs qs a h are bs.
+    let x = a .0 in
+    let p = x .now in
+    let g = a .1 .0 in
+    let r = a .1 .1 .0 in
+    let f = a .1 .1 .1 .0 in
+    let k = p .task in
+    let w = writtenBy g p k in
+    let q = withRegister w p in
+    let e = begin (g .n) (q .task) q in
+    let s = readBy g r p f k in
+    begins-own ! a-process x (Turning g f p) (id⊢ 𝓤 _) (λ asked p-is.
+    reads-field ! a-process a-task task-field p p-is refl (tt, refl) ▹
+    gets ! ends-is (endsBy f k) ((tt, tt, refl), tt) (asks-nothing 𝓤) (λ z ws. id⊢ 𝓤 _) (λ _.
+    if-leaves ! refl tt
+    (λ ended.
+    reads-whole ! a-process p p-is refl (tt, refl) ▹
+    gets ! written-is w ((tt, tt, refl), tt) (given 𝓤 (asked .sound .small, asked .seq)) (λ z ws. id⊢ 𝓤 _) (λ w-is.
+    stores-field ! a-process a-register register-field p refl refl tt ▹
+    reads-whole ! a-process q (register-field .fine-with w p w-is p-is) refl (tt, refl) ▹
+    gets ! over-is e ((tt, tt, refl), tt) (given 𝓤 (asked .sound .small)) (λ z ws. id⊢ 𝓤 _) (λ e-is.
+    stores-whole ! a-process q refl refl tt ▹
+    gets ! idle-is Idle ((tt, tt, refl), tt) (asks-nothing 𝓤) (λ z ws. id⊢ 𝓤 _) (λ k-is.
+    stores-field ! a-process a-task task-field e refl refl tt ▹
+    unit-stored ! (tt, refl) ▹
+    ends-own ! ps a-unit c a h tt refl a-process x (withTask Idle e) (task-field .fine-with Idle e k-is e-is)
+    (withTask Idle e, (tt, (tt, (tt, tt)))) (refl, refl, tt, refl) (tt, (tt, (tt, (tt, tt)))) (given 𝓤 (state-ended g r p f k (is-true (endsBy f k) ended)))))))
+    (λ goes-on.
+    reads-whole ! a-process p p-is refl (tt, refl) ▹
+    gets ! read-is s ((tt, tt, refl), tt) (given 𝓤 (asked .sound, asked .passed)) (λ z ws. id⊢ 𝓤 _) (λ s-is.
+    stores-whole ! a-process p refl refl tt ▹
+    gets ! after-is (taskBy f k) ((tt, tt, refl), tt) (given 𝓤 (asked .turns)) (λ z ws. id⊢ 𝓤 _) (λ k-is.
+    stores-field ! a-process a-task task-field s refl refl tt ▹
+    unit-stored ! (tt, refl) ▹
+    ends-own ! ps a-unit c a h tt refl a-process x (withTask (taskBy f k) s) (task-field .fine-with (taskBy f k) s k-is s-is)
+    (withTask (taskBy f k) s, (tt, (tt, (tt, tt)))) (refl, refl, tt, refl) (tt, (tt, (tt, (tt, tt)))) (given 𝓤 (state-went-on g r p f k (is-false (endsBy f k) goes-on)))))))))

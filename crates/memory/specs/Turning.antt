@@ -1,0 +1,38 @@
+-- What a turn takes for granted of the record that it is lent, and of its table: an accepted turn finds it so (proofs/Accepted).
+use Prim.Native.Nat.{ℕ, _≤_, _<_}
+use mathlib.Core.Path.{_≡_}
+use mathlib.Core.List.{List}
+use lib.ListN.{length, getD}
+use Rattle.snapshot.specs.declared.Day.{Day}
+use Rattle.unbounded.specs.declared.Register.{Register}
+use Rattle.unbounded.specs.declared.Process.{Process}
+use Rattle.unbounded.specs.declared.Task.{Task}
+use Rattle.unbounded.specs.Processes.{noProcess, turnsOf}
+use Rattle.unbounded_turns.specs.declared.Access.{Access}
+use Rattle.unbounded_turns.specs.declared.Find.{Find}
+use Rattle.unbounded_turns.specs.Accesses.{AllowsTurn, Sound, accessOf, registerIn}
+use Rattle.unbounded_turns.specs.Steps.{findOf}
+
+-- an access within its double collect, a search that passed at most eight processes, and a record with room for one write and one
+-- turn more
+pub record Turning (a : Access) (f : Find) (p : Process) : Type 0 where
+  pub sound : Sound a
+  pub passed : f .passed ≤ 8
+  pub seq : p .register .seq < 4294967295
+  pub turns : turnsOf (p .task) < 4294967295
+
+-- record i of a table for the day's processes, with task k
+pub record TurnAt (day : Day) (ps : List Process) (i : ℕ) (k : Task) : Type 0 where
+  pub allows : AllowsTurn day
+  pub full : day .count ≤ length ps
+  pub inside : i < length ps
+  pub task : getD ps i noProcess .task ≡ k
+  pub seq : getD ps i noProcess .register .seq < 4294967295
+  pub turns : turnsOf k < 4294967295
+
+-- the register that task k reads, and what record i finds by it
+abbrev pub readAt : Day → List Process → Task → Register
+readAt day ps k = registerIn (accessOf day k) ps
+
+abbrev pub foundAt : Day → List Process → (i : ℕ) → Task → Find
+foundAt day ps i k = findOf (accessOf day k) (readAt day ps k) (getD ps i noProcess)

@@ -1,0 +1,119 @@
+// The records of the lent table: each function takes one out, or lends one on, and asks a function on a record by value
+// (crate `unbounded_turns`). None knows a part of a day, a task or a collect.
+use admission::Survey;
+use snapshot::Day;
+use unbounded::Process;
+use unbounded::Register;
+use unbounded::Task;
+use unbounded_turns::Access;
+use unbounded_turns::Find;
+use unbounded_turns::finds;
+use unbounded_turns::records;
+use unbounded_turns::surveys;
+use unbounded_turns::tasks;
+ghost use mathlib.Core.Path.{_≡_};
+ghost use mathlib.Core.List.{map, foldl};
+ghost use Prim.Native.Nat.{_≤_, _<_};
+ghost use lib.ListN.{length, getD, set};
+ghost use Rattle.unbounded.specs.Processes.{noProcess, zeroProcess, isIdle, begin};
+ghost use Rattle.unbounded_turns.specs.Accesses.{Sound};
+ghost use Rattle.unbounded_turns.specs.Steps.{findOf, stateBy};
+ghost use Rattle.unbounded_turns.specs.Surveys.{surveyedBy};
+ghost use Rattle.memory.specs.Turning.{Turning};
+
+// What a look at every record finds, from what was found before.
+pub fn survey(ps: &[Process], start: Survey) -> Survey
+    ensures { λ s. ⌜ s ≡ foldl surveyedBy start (now (ps .entry)) ⌝ }
+{
+    let mut found = start;
+    let mut i = 0;
+    while i < ps.len() {
+        found = surveys::surveyed(found, ps[i]);
+        i += 1;
+    }
+    found
+}
+
+// Every record set to 0.
+pub fn clear_all(ps: &mut [Process])
+    ensures { λ r. ⌜ now (ps .exit) ≡ map (λ p. zeroProcess) (now (ps .entry)) ⌝ }
+{
+    let mut i = 0;
+    while i < ps.len() {
+        ps[i] = records::zero();
+        i += 1;
+    }
+}
+
+// Whether record i has no task.
+pub fn rests_at(ps: &[Process], i: usize) -> bool
+    requires { ⌜ i < length (now ps) ⌝ }
+    ensures { λ b. ⌜ b ≡ isIdle (getD (now (ps .entry)) i noProcess .task) ⌝ }
+{
+    records::rests(ps[i])
+}
+
+// The task of record i.
+pub fn task_at(ps: &[Process], i: usize) -> Task
+    requires { ⌜ i < length (now ps) ⌝ }
+    ensures { λ k. ⌜ k ≡ getD (now (ps .entry)) i noProcess .task ⌝ }
+{
+    records::task_of(ps[i])
+}
+
+// The register of record i.
+pub fn register_at(ps: &[Process], i: usize) -> Register
+    requires { ⌜ i < length (now ps) ⌝ }
+    ensures { λ r. ⌜ r ≡ getD (now (ps .entry)) i noProcess .register ⌝ }
+{
+    records::register_of(ps[i])
+}
+
+// What the access that read r finds, for record i.
+pub fn find_at(ps: &[Process], i: usize, a: Access, r: Register) -> Find
+    requires { ⌜ (i < length (now ps)) × Sound a ⌝ }
+    ensures { λ f. ⌜ f ≡ findOf a r (getD (now (ps .entry)) i noProcess) ⌝ }
+{
+    finds::find_page(a, r, ps[i])
+}
+
+// A record with task k and nothing collected.
+fn begin_own(p: &mut Process, day: Day, k: Task)
+    requires { ⌜ day .count ≤ 8 ⌝ }
+    ensures { λ r. ⌜ now (p .exit) ≡ begin (day .count) k (now (p .entry)) ⌝ }
+{
+    *p = records::begun(day, *p);
+    p.task = k;
+}
+
+// The same for record i of the table.
+pub fn begin_at(ps: &mut [Process], i: usize, day: Day, k: Task)
+    requires { ⌜ (i < length (now ps)) × (day .count ≤ 8) ⌝ }
+    ensures { λ r. ⌜ now (ps .exit) ≡ set (now (ps .entry)) i (begin (day .count) k (getD (now (ps .entry)) i noProcess)) ⌝ }
+{
+    begin_own(&mut ps[i], day, k);
+}
+
+// The turn of one process on its own record: its access read r and found f.
+fn turn_own(p: &mut Process, a: Access, r: Register, f: Find)
+    requires { ⌜ Turning a f (now p) ⌝ }
+    ensures { λ x. ⌜ now (p .exit) ≡ stateBy a r (now (p .entry)) f (now (p .entry) .task) ⌝ }
+{
+    let k = p.task;
+    if tasks::ends(k, f) {
+        p.register = records::written(a, *p);
+        *p = records::over(a, *p);
+        p.task = tasks::idle();
+        return;
+    }
+    *p = records::read(a, r, k, f, *p);
+    p.task = tasks::task_after(k, f);
+}
+
+// The same for record i of the table.
+pub fn turn_at(ps: &mut [Process], i: usize, a: Access, r: Register, f: Find)
+    requires { ⌜ (i < length (now ps)) × Turning a f (getD (now ps) i noProcess) ⌝ }
+    ensures { λ x. ⌜ now (ps .exit) ≡ set (now (ps .entry)) i (stateBy a r (getD (now (ps .entry)) i noProcess) f (getD (now (ps .entry)) i noProcess .task)) ⌝ }
+{
+    turn_own(&mut ps[i], a, r, f);
+}

@@ -1,0 +1,237 @@
+-- The steps of the code, what a turn finds, the record it leaves, its answer and its page list, are together a turn of `Turns`.
+use Prim.Native.Nat.{ℕ, _+_, _-_, _*_, _≤_}
+use mathlib.Core.Path.{_≡_, refl, sym, ap, _∙_}
+use mathlib.Core.Bool.{Bool, true, false, cond, true≢false, false≢true}
+use mathlib.Core.List.{List, _++_}
+use mathlib.Core.Option.{Option, none, some}
+use native.Mathlib.Omega.{arith}
+use lib.ListN.{length, getD, take, drop, replicate}
+use lib.Seq.{length-take-le}
+use lib.Dec.{eqb}
+use Rattle.snapshot.specs.Lists.{over}
+use Rattle.snapshot.specs.Verdict.{Verdict, clean, lent, again, verdict}
+use Rattle.snapshot.specs.Marks.{lends, markFrom, passed}
+use Rattle.snapshot.specs.Demand.{Result}
+use Rattle.snapshot.specs.Days.{readFrom, turnBy}
+use Rattle.snapshot.specs.declared.Day.{Day}
+use Rattle.snapshot.specs.declared.Answer.the-variants.{Read, Page}
+use Rattle.snapshot.proofs.Lists.{take-over, over-take}
+use Rattle.snapshot.proofs.DoubleCollect.{Ends, nobody, lender, goes-on, verdict-ends}
+use Rattle.unbounded.specs.declared.Register.{Register}
+use Rattle.unbounded.specs.declared.Process.{Process}
+use Rattle.unbounded.specs.declared.Task.{Task}
+use Rattle.unbounded.specs.declared.Task.the-variants.{Idle, Scan, Update, Ready}
+use Rattle.unbounded.specs.Registers.{ascending, pageOf, differs, collectedAt}
+use Rattle.unbounded.specs.Processes.{noProcess, isIdle, begin}
+use Rattle.unbounded.specs.Turns.{reads, position, firstAfter, secondAfter, endAfter, decision, marksAfter, found, afterRead, foundBy}
+use Rattle.unbounded.specs.Turns.{scanTurn, updateTurn, turnedBy, turned}
+use Rattle.unbounded.specs.Days.{figure3}
+use Rattle.unbounded.proofs.Places.{page-of-long}
+use Rattle.unbounded_turns.specs.declared.Access.{Access}
+use Rattle.unbounded_turns.specs.declared.Find.{Find}
+use Rattle.unbounded_turns.specs.Accesses.{accessOf, registerIn}
+use Rattle.unbounded_turns.specs.Steps.{isReady, decisionFind, findOf, withTask, keepsBy, readBy, endsBy, taskBy, writtenBy, stateBy}
+use Rattle.unbounded_turns.specs.Steps.{answerBy, pageBy}
+
+-- a turn in the steps of the code, where it found f
+abbrev pub steps : Access → Register → List ℕ → Process → Find → Task → Result Process
+steps a r page p f k = record { state = stateBy a r p f k; answer = answerBy f k; page = pageBy a f k page }
+
+-- ---- what a turn finds
+
+-- n words laid over eight zeros and then over a list are those words laid over the list
+over-over : (n : ℕ) (ws zs page : List ℕ) → length ws ≡ n → over n ws page ≡ over n (over n ws zs) page
+over-over n ws zs page q = sym (ap (λ t. t ++ drop n page) (take-over n ws zs (length-take-le n ws (omega arith))))
+
+passed-by : (n end : ℕ) (y : List Register) (v : Option Verdict) → passed n v ≡ decisionFind n end y v .passed
+passed-by n end y none = refl
+passed-by n end y (some clean) = refl
+passed-by n end y (some (lent j)) = refl
+passed-by n end y (some again) = refl
+
+-- a search for a lender passes at most the n processes
+pub find-passed : (a : Access) (r : Register) (p : Process) → findOf a r p .passed ≤ a .n
+unfolding findOf decision
+find-passed a r p =
+    let x = firstAfter (a .n) (a .pos) r (p .first) in
+    let y = secondAfter (a .n) (a .pos) r (p .second) in
+    go x y (endAfter (a .n) (a .pos) (a .now) (p .«first_end»)) (eqb (a .pos + 1) (2 * a .n))
+  where
+    by : (x y : List Register) (e : ℕ) (v : Verdict) →
+        Ends (a .n) (differs ascending x y) (lends (differs ascending x y) (p .moved)) v →
+        decisionFind (a .n) e y (some v) .passed ≤ a .n
+    by x y e _ (nobody h) = omega arith
+    by x y e _ (lender j l h g) = omega arith
+    by x y e _ (goes-on j l h g) = omega arith
+
+    go : (x y : List Register) (e : ℕ) (b : Bool) → let d = differs ascending x y in
+        decisionFind (a .n) e y (cond b (some (verdict (a .n) d (lends d (p .moved)))) none) .passed ≤ a .n
+    go x y e true = let d = differs ascending x y in by x y e _ (verdict-ends (a .n) d (lends d (p .moved)))
+    go x y e false = omega arith
+
+-- ---- a reading turn, the t-th of its task
+
+module _ (n now : ℕ) (r : Register) (page : List ℕ) (p : Process) (t : ℕ) where
+  abbrev a : Access
+  a = record { n = n; now = now; pos = position n t }
+
+  abbrev x : List Register
+  x = firstAfter n (position n t) r (p .first)
+
+  abbrev y : List Register
+  y = secondAfter n (position n t) r (p .second)
+
+  abbrev end : ℕ
+  end = endAfter n (position n t) now (p .«first_end»)
+
+  abbrev decided : Option Verdict
+  decided = decision ascending n (position n t) x y (p .moved)
+
+  abbrev finds : Option Verdict → Find
+  finds v = decisionFind n end y v
+
+  -- the record of task k, with task k′ and view w, where the decision is v
+  read-is : (v : Option Verdict) (k k′ : Task) (w : List ℕ) → decided ≡ v →
+      w ≡ cond (keepsBy (finds v) k) (over n (finds v .words) (p .view)) (p .view) →
+      afterRead ascending n now (position n t) r p k′ w ≡ withTask k′ (readBy a r p (finds v) k)
+  unfolding afterRead readBy marksAfter
+  read-is v k k′ w q e =
+      let marks = ap (passed n) q ∙ passed-by n end y v in
+      λ i. record {
+        register = p .register;
+        task = k′;
+        first = x;
+        second = y;
+        «first_end» = end;
+        view = e i;
+        moved = markFrom (differs ascending x y) (marks i) 0 (p .moved);
+      }
+
+  scan-steps : (v : Option Verdict) → decided ≡ v →
+      scanTurn ascending n now r page p t (found ascending n y end v) ≡ steps a r page p (finds v) (Scan t)
+  unfolding stateBy begin
+  scan-steps none q =
+      ap (λ s. record { state = s; answer = Read; page = page }) (read-is none (Scan t) (Scan (t + 1)) (p .view) q refl)
+  scan-steps (some clean) q =
+      ap (λ w. record { state = begin n Idle p; answer = Page 0 end (t + 1); page = w })
+      (over-over n (pageOf ascending n y) (replicate 8 0) page (page-of-long ascending n y))
+  scan-steps (some (lent j)) q =
+      let c = collectedAt ascending y j in
+      ap (λ w. record { state = begin n Idle p; answer = Page (j + 1) (c .at) (t + 1); page = w }) (over-take n (c .view) page)
+  scan-steps (some again) q =
+      ap (λ s. record { state = s; answer = Read; page = page }) (read-is (some again) (Scan t) (Scan (t + 1)) (p .view) q refl)
+
+  update-steps : (w : ℕ) (v : Option Verdict) → decided ≡ v →
+      updateTurn ascending n now r page p w t (found ascending n y end v) ≡ steps a r page p (finds v) (Update w t)
+  unfolding stateBy
+  update-steps w none q =
+      ap (λ s. record { state = s; answer = Read; page = page }) (read-is none (Update w t) (Update w (t + 1)) (p .view) q refl)
+  update-steps w (some clean) q =
+      ap (λ s. record { state = s; answer = Read; page = page })
+      (read-is (some clean) (Update w t) (Ready w end (t + 1)) (over n (pageOf ascending n y) (p .view)) q
+      (over-over n (pageOf ascending n y) (replicate 8 0) (p .view) (page-of-long ascending n y)))
+  update-steps w (some (lent j)) q =
+      let c = collectedAt ascending y j in
+      ap (λ s. record { state = s; answer = Read; page = page })
+      (read-is (some (lent j)) (Update w t) (Ready w (c .at) (t + 1)) (over n (take n (c .view)) (p .view)) q
+      (over-take n (c .view) (p .view)))
+  update-steps w (some again) q =
+      ap (λ s. record { state = s; answer = Read; page = page })
+      (read-is (some again) (Update w t) (Update w (t + 1)) (p .view) q refl)
+
+-- ---- a turn of a task on a day
+
+module _ (day : Day) (page : List ℕ) (p : Process) where
+  abbrev now : ℕ
+  now = day .event + 1
+
+  reading-task : (r : Register) (k : Task) → isIdle k ≡ false → isReady k ≡ false → let a = accessOf day k in
+      turnedBy ascending (day .count) now r page p k ≡ steps a r page p (findOf a r p) k
+  unfolding accessOf foundBy findOf
+  reading-task r Idle i q = absurd (true≢false i)
+  reading-task r (Scan t) i q = scan-steps (day .count) now r page p t (decided (day .count) now r page p t) refl
+  reading-task r (Update w t) i q = update-steps (day .count) now r page p t w (decided (day .count) now r page p t) refl
+  reading-task r (Ready w at t) i q = absurd (true≢false q)
+
+  writing-task : (r r′ : Register) (f : Find) (k : Task) → isReady k ≡ true →
+      turnedBy ascending (day .count) now r page p k ≡ steps (accessOf day k) r′ page p f k
+  unfolding accessOf stateBy
+  writing-task r r′ f Idle q = absurd (false≢true q)
+  writing-task r r′ f (Scan t) q = absurd (false≢true q)
+  writing-task r r′ f (Update w t) q = absurd (false≢true q)
+  writing-task r r′ f (Ready w at t) q = refl
+
+  -- a reading turn
+  pub reading-is-steps : (r : Register) → isIdle (p .task) ≡ false → isReady (p .task) ≡ false → let a = accessOf day (p .task) in
+      turned ascending (day .count) now r page p ≡ steps a r page p (findOf a r p) (p .task)
+  unfolding turned
+  reading-is-steps r = reading-task r (p .task)
+
+  -- a writing turn, which reads no register and finds nothing: whatever it is said to have read and found
+  pub writing-is-steps : (r r′ : Register) (f : Find) → isReady (p .task) ≡ true →
+      turned ascending (day .count) now r page p ≡ steps (accessOf day (p .task)) r′ page p f (p .task)
+  unfolding turned
+  writing-is-steps r r′ f = writing-task r r′ f (p .task)
+
+-- ---- a turn on a table
+
+-- the access of record p of a table: it read register r and found f
+pub data Accessed (a : Access) (ps : List Process) (p : Process) : Register → Find → Type 0 where
+  a-read : isIdle (p .task) ≡ false → isReady (p .task) ≡ false → Accessed a ps p (registerIn a ps) (findOf a (registerIn a ps) p)
+  a-write : {r : Register} {f : Find} → isReady (p .task) ≡ true → Accessed a ps p r f
+
+register-read : (day : Day) (ps : List Process) (k : Task) → isIdle k ≡ false → isReady k ≡ false →
+    registerIn (accessOf day k) ps ≡ readFrom (figure3 ascending) ps (reads ascending (day .count) k) .register
+unfolding accessOf
+register-read day ps Idle i q = absurd (true≢false i)
+register-read day ps (Scan t) i q = refl
+register-read day ps (Update w t) i q = refl
+register-read day ps (Ready w at t) i q = absurd (true≢false q)
+
+-- an accepted turn of process d
+pub turn-is-steps : (day : Day) (ps : List Process) (d : ℕ) (page : List ℕ) {r : Register} {f : Find} →
+    let p = getD ps (d - 1) noProcess in let a = accessOf day (p .task) in
+    Accessed a ps p r f →
+    turnBy (figure3 ascending) (record { day = day; table = ps }) d page ≡ steps a r page p f (p .task)
+unfolding turnBy
+turn-is-steps day ps d page (a-read i q) =
+    let p = getD ps (d - 1) noProcess in
+    sym (ap (λ r. turned ascending (day .count) (day .event + 1) r page p) (register-read day ps (p .task) i q))
+    ∙ reading-is-steps day page p (registerIn (accessOf day (p .task)) ps) i q
+turn-is-steps day ps d page {r} {f} (a-write q) = writing-is-steps day page (getD ps (d - 1) noProcess) _ r f q
+
+-- ---- what a walk stores
+
+pub access-count : (day : Day) (k : Task) → accessOf day k .n ≡ day .count
+unfolding accessOf
+access-count day k = refl
+
+-- p with another register
+abbrev pub withRegister : Register → Process → Process
+withRegister r p =
+    record {
+      register = r;
+      task = p .task;
+      first = p .first;
+      second = p .second;
+      «first_end» = p .«first_end»;
+      view = p .view;
+      moved = p .moved;
+    }
+
+-- a call: nothing collected, then the task
+pub begin-then-task : (n : ℕ) (k : Task) (p : Process) → withTask k (begin n (p .task) p) ≡ begin n k p
+unfolding begin
+begin-then-task n k p = refl
+
+module _ (a : Access) (r : Register) (p : Process) (f : Find) (k : Task) where
+  -- a turn that ends its task: the register, nothing collected, no task
+  pub state-ended : endsBy f k ≡ true → let q = withRegister (writtenBy a p k) p in
+      withTask Idle (begin (a .n) (q .task) q) ≡ stateBy a r p f k
+  unfolding stateBy begin
+  state-ended e = rw e
+
+  -- any other: the read, then the task
+  pub state-went-on : endsBy f k ≡ false → withTask (taskBy f k) (readBy a r p f k) ≡ stateBy a r p f k
+  unfolding stateBy
+  state-went-on e = rw e

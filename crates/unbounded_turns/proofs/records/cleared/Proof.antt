@@ -1,0 +1,174 @@
+-- `unbounded_turns::records::cleared` meets its contract: after i turns of the loop, the first i places are clear.
+use Prim.Native.Nat.{ℕ, _+_, _≤_, _<_, _-_}
+use mathlib.Core.Path.{_≡_, refl, sym, ap, _∙_}
+use mathlib.Core.Bool.{false}
+use mathlib.Core.List.{List, map}
+use native.Mathlib.Omega.{arith}
+use lib.ListN.{length, getD, set, replicate, length-map, length-replicate, getD-replicate}
+use Rattle.snapshot.specs.Lists.{over}
+use Rattle.snapshot.proofs.Lists.{getD-over-at, over-more, getD-map-below}
+use Rattle.unbounded.specs.declared.Register.{Register}
+use Rattle.unbounded.specs.declared.Process.{Process}
+use Rattle.unbounded.specs.Registers.{noRegister, laid, cleared}
+use Rattle.unbounded.specs.Processes.{begin}
+use denote.Struct.Field.{u32-field}
+use Rattle.unbounded.proofs.Register as R
+use borrow.Author.Needs.{needs}
+use Rattle.unbounded_turns.proofs.records.cleared.Statement.{statement}
+use Rattle.unbounded_turns.proofs.records.cleared.Tie as tie
+
+-- the first i places of p cleared by register z
+abbrev clearedTo : ℕ → ℕ → Register → Process → Process
+clearedTo n i z p =
+    record {
+      register = p .register;
+      task = p .task;
+      first = over i (map (laid n z) (p .first)) (p .first);
+      second = over i (map (laid n z) (p .second)) (p .second);
+      «first_end» = p .«first_end»;
+      view = over i (replicate 8 0) (p .view);
+      moved = p .moved;
+    }
+
+-- place i cleared in a collect whose first i are
+one-more : (n i : ℕ) (z : Register) (rs : List Register) → i < length rs →
+    let f = laid n z in let cs = over i (map f rs) rs in
+    set cs i (f (getD cs i noRegister)) ≡ over (i + 1) (map f rs) rs
+one-more n i z rs l =
+    let f = laid n z in
+    let m = length-map rs f in
+    ap (λ v. set (over i (map f rs) rs) i v)
+    (ap f (getD-over-at i (map f rs) rs noRegister (omega arith) l) ∙ sym (getD-map-below f rs i noRegister noRegister l))
+    ∙ over-more i (map f rs) rs noRegister (omega arith) l
+
+no-word : (i : ℕ) (v : List ℕ) → i < 8 → i < length v → set (over i (replicate 8 0) v) i 0 ≡ over (i + 1) (replicate 8 0) v
+no-word i v l m =
+    ap (λ w. set (over i (replicate 8 0) v) i w) (sym (getD-replicate 8 i 0 0 l))
+    ∙ over-more i (replicate 8 0) v 0 (let e : length (replicate {A = ℕ} 8 0) ≡ 8 = length-replicate {A = ℕ} 8 0 in omega arith) m
+
+-- the fields that the loop changes
+abbrev withFields : Process → List Register → List Register → List ℕ → Process
+withFields p a b v =
+    record {
+      register = p .register;
+      task = p .task;
+      first = a;
+      second = b;
+      «first_end» = p .«first_end»;
+      view = v;
+      moved = p .moved;
+    }
+
+same-fields : (p : Process) {a a′ b b′ : List Register} {v v′ : List ℕ} → a ≡ a′ → b ≡ b′ → v ≡ v′ → withFields p a b v ≡ withFields p a′ b′ v′
+same-fields p {a} {a′} {b} {b′} {v} {v′} d e f =
+    ap (λ x. withFields p x b v) d ∙ ap (λ x. withFields p a′ x v) e ∙ ap (λ x. withFields p a′ b′ x) f
+
+-- a turn of the loop on q, which stores x and y
+turned-once : (n i : ℕ) (z : Register) (p q : Process) (x y : Register) → q ≡ clearedTo n i z p →
+    x ≡ laid n z (getD (q .first) i noRegister) → y ≡ laid n z (getD (q .second) i noRegister) →
+    i < 8 → i < length (p .first) → i < length (p .second) → i < length (p .view) →
+    withFields q (set (q .first) i x) (set (q .second) i y) (set (q .view) i 0) ≡ clearedTo n (i + 1) z p
+turned-once n i z p q x y e d d′ l la lb lv =
+    same-fields q (ap (set (q .first) i) d) (ap (set (q .second) i) d′) refl
+    ∙ ap (λ s. withFields s (set (s .first) i (laid n z (getD (s .first) i noRegister))) (set (s .second) i (laid n z (getD (s .second) i noRegister))) (set (s .view) i 0)) e
+    ∙ same-fields p (one-more n i z (p .first) la) (one-more n i z (p .second) lb) (no-word i (p .view) l lv)
+
+abbrev Inv-loop : tie.InvT-loop
+Inv-loop n none q₀ i₀ q i = (i ≤ n) × (q ≡ clearedTo n i none q₀)
+
+abbrev μ-loop : tie.MeasureT-loop
+μ-loop n none q₀ i₀ q i = n - i
+
+no-register-requires : tie.Need-no-register-requires Inv-loop μ-loop
+no-register-requires c κs = search needs
+
+loop-holds : tie.Need-loop-holds Inv-loop μ-loop
+loop-holds c = (omega arith, refl)
+
+mul-a : tie.Need-mul-a Inv-loop μ-loop
+mul-a c = search needs
+
+element-copy-out-a : tie.Need-element-copy-out-a Inv-loop μ-loop
+element-copy-out-a c = search needs
+
+mul-b : tie.Need-mul-b Inv-loop μ-loop
+mul-b c = search needs
+
+element-copy-out-b : tie.Need-element-copy-out-b Inv-loop μ-loop
+element-copy-out-b c = search needs
+
+lay-requires : tie.Need-lay-requires Inv-loop μ-loop
+lay-requires c κs = search needs
+
+mul-q : tie.Need-mul-q Inv-loop μ-loop
+mul-q c = search needs
+
+element-set-from-q : tie.Need-element-set-from-q Inv-loop μ-loop
+element-set-from-q c = search needs
+
+lay-requires-2 : tie.Need-lay-requires-2 Inv-loop μ-loop
+lay-requires-2 c κs = search needs
+
+mul-t10 : tie.Need-mul-t10 Inv-loop μ-loop
+mul-t10 c = search needs
+
+element-set-from-q-2 : tie.Need-element-set-from-q-2 Inv-loop μ-loop
+element-set-from-q-2 c = search needs
+
+mul-q-2 : tie.Need-mul-q-2 Inv-loop μ-loop
+mul-q-2 c = search needs
+
+element-write-q : tie.Need-element-write-q Inv-loop μ-loop
+element-write-q c = search needs
+
+add-i : tie.Need-add-i Inv-loop μ-loop
+add-i c = search needs
+
+loop-less : tie.Need-loop-less Inv-loop μ-loop
+loop-less c = search needs
+
+loop-again : tie.Need-loop-again Inv-loop μ-loop
+loop-again c =
+    let l = c .before .before .before .before .before .loop in
+    let start = c .before .before .before .before .before .before .before in
+    let p = start .args .p in
+    -- the arrays of a record are eight long
+    let fields = start .good .1 .0 .1 .1 .1 .1 in
+    let firsts = sym (length-map (p .first) (R.the-field .into)) ∙ fields .0 .1 .0 .1 in
+    let seconds = sym (length-map (p .second) (R.the-field .into)) ∙ fields .1 .0 .1 .0 .1 in
+    let words = sym (length-map (p .view) (u32-field .into)) ∙ fields .1 .1 .1 .0 .1 .0 .1 in
+    (omega arith, turned-once (start .args .n) (l .i) (c .before .before .before .before .before .before .no-register .result) p (l .q) (c .before .lay .result) (c .lay2 .result) (l .inv .1) (c .before .lay .ensures) (c .lay2 .ensures) (omega arith) (omega (arith, firsts)) (omega (arith, seconds)) (omega (arith, words)))
+
+returns : tie.Need-returns Inv-loop μ-loop
+unfolding begin cleared
+returns c =
+    let l = c .before .loop in
+    let a = c .before .before .before .args in
+    let all : l .i ≡ a .n = omega arith in
+    ap (λ q. record { register = q .register; task = q .task; first = q .first; second = q .second; «first_end» = 0; view = q .view; moved = replicate 8 false })
+    (l .inv .1 ∙ ap (λ k. clearedTo (a .n) k (c .before .before .no-register .result) (a .p)) all ∙ ap (λ z. clearedTo (a .n) (a .n) z (a .p)) (c .before .before .no-register .ensures))
+
+pub cleared-spec : {M : Type 1} → statement M
+cleared-spec =
+    tie.close
+    (tie.spec
+    Inv-loop
+    μ-loop
+    no-register-requires
+    loop-holds
+    mul-a
+    element-copy-out-a
+    mul-b
+    element-copy-out-b
+    lay-requires
+    mul-q
+    element-set-from-q
+    lay-requires-2
+    mul-t10
+    element-set-from-q-2
+    mul-q-2
+    element-write-q
+    add-i
+    loop-less
+    loop-again
+    returns)

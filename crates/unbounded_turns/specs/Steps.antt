@@ -1,0 +1,146 @@
+-- What the functions on one process record compute, step by step. That together they are a turn of `Turns` is proved (proofs/Steps).
+use Prim.Native.Nat.{ℕ, _+_}
+use mathlib.Core.Bool.{Bool, true, false, cond}
+use mathlib.Core.List.{List}
+use mathlib.Core.Option.{Option, none, some}
+use lib.ListN.{replicate}
+use Rattle.snapshot.specs.Lists.{over}
+use Rattle.snapshot.specs.Verdict.{Verdict, clean, lent, again}
+use Rattle.snapshot.specs.Marks.{markFrom}
+use Rattle.snapshot.specs.declared.Request.{Request}
+use Rattle.snapshot.specs.declared.Request.the-variants as Requests
+use Rattle.snapshot.specs.declared.Answer.{Answer}
+use Rattle.snapshot.specs.declared.Answer.the-variants.{Read, Page, Written}
+use Rattle.unbounded.specs.declared.Register.{Register}
+use Rattle.unbounded.specs.declared.Process.{Process}
+use Rattle.unbounded.specs.declared.Task.{Task}
+use Rattle.unbounded.specs.declared.Task.the-variants.{Idle, Scan, Update, Ready}
+use Rattle.unbounded.specs.Registers.{ascending, collectedAt, pageOf, differs}
+use Rattle.unbounded.specs.Processes.{emptied}
+use Rattle.unbounded.specs.Turns.{firstAfter, secondAfter, endAfter, decision, written}
+use Rattle.unbounded_turns.specs.declared.Access.{Access}
+use Rattle.unbounded_turns.specs.declared.Find.{Find}
+
+-- ---- tasks
+
+-- the task that a call sets, which has had no turn
+abbrev pub taskFor : Request → Task
+taskFor (Requests.Open k) = Idle
+taskFor (Requests.Update d w) = Update w 0
+taskFor (Requests.Scan d) = Scan 0
+taskFor (Requests.Turn d) = Idle
+
+-- an update that is ready to write
+abbrev pub isReady : Task → Bool
+isReady Idle = false
+isReady (Scan t) = false
+isReady (Update w t) = false
+isReady (Ready w at t) = true
+
+-- ---- what a turn finds
+
+-- nothing found, after a search for a lender that passed k processes
+abbrev pub nothingFound : ℕ → Find
+nothingFound k = record { found = false; passed = k; words = replicate 8 0; at = 0; lender = 0 }
+
+-- what a decision finds, as the code holds it, from the second collect and the end of the first: eight words, of which n count
+abbrev pub decisionFind : ℕ → ℕ → List Register → Option Verdict → Find
+decisionFind n end b none = nothingFound 0
+decisionFind n end b (some clean) =
+    record { found = true; passed = 0; words = over n (pageOf ascending n b) (replicate 8 0); at = end; lender = 0 }
+decisionFind n end b (some (lent j)) =
+    record {
+      found = true;
+      passed = j;
+      words = collectedAt ascending b j .view;
+      at = collectedAt ascending b j .at;
+      lender = j + 1;
+    }
+decisionFind n end b (some again) = nothingFound n
+
+-- what the read of r finds, by the turn of a record p
+unfoldable pub findOf : Access → Register → Process → Find
+findOf a r p =
+    let first = firstAfter (a .n) (a .pos) r (p .first) in
+    let second = secondAfter (a .n) (a .pos) r (p .second) in
+    decisionFind (a .n) (endAfter (a .n) (a .pos) (a .now) (p .«first_end»)) second
+    (decision ascending (a .n) (a .pos) first second (p .moved))
+
+-- ---- the record after a turn that found f
+
+-- p with another task
+abbrev pub withTask : Task → Process → Process
+withTask k p =
+    record {
+      register = p .register;
+      task = k;
+      first = p .first;
+      second = p .second;
+      «first_end» = p .«first_end»;
+      view = p .view;
+      moved = p .moved;
+    }
+
+-- whether a task keeps the page that a turn found: an update does
+abbrev pub keepsBy : Find → Task → Bool
+keepsBy f Idle = false
+keepsBy f (Scan t) = false
+keepsBy f (Update w t) = f .found
+keepsBy f (Ready w at t) = false
+
+-- the record p of task k once r is read, with the task that it had
+unfoldable pub readBy : Access → Register → Process → Find → Task → Process
+readBy a r p f k =
+    let first = firstAfter (a .n) (a .pos) r (p .first) in
+    let second = secondAfter (a .n) (a .pos) r (p .second) in
+    record {
+      register = p .register;
+      task = p .task;
+      first = first;
+      second = second;
+      «first_end» = endAfter (a .n) (a .pos) (a .now) (p .«first_end»);
+      view = cond (keepsBy f k) (over (a .n) (f .words) (p .view)) (p .view);
+      moved = markFrom (differs ascending first second) (f .passed) 0 (p .moved);
+    }
+
+-- whether the turn ends its task
+abbrev pub endsBy : Find → Task → Bool
+endsBy f Idle = false
+endsBy f (Scan t) = f .found
+endsBy f (Update w t) = false
+endsBy f (Ready w at t) = true
+
+-- the task after the turn
+abbrev pub taskBy : Find → Task → Task
+taskBy f Idle = Idle
+taskBy f (Scan t) = cond (f .found) Idle (Scan (t + 1))
+taskBy f (Update w t) = cond (f .found) (Ready w (f .at) (t + 1)) (Update w (t + 1))
+taskBy f (Ready w at t) = Idle
+
+-- the register after the turn: an update that is ready writes it
+abbrev pub writtenBy : Access → Process → Task → Register
+writtenBy a p Idle = p .register
+writtenBy a p (Scan t) = p .register
+writtenBy a p (Update w t) = p .register
+writtenBy a p (Ready w at t) = written (a .n) w at p
+
+-- the record p of task k after the turn
+unfoldable pub stateBy : Access → Register → Process → Find → Task → Process
+stateBy a r p f k =
+    cond (endsBy f k) (emptied (a .n) (writtenBy a p k) Idle p) (withTask (taskBy f k) (readBy a r p f k))
+
+-- ---- what it answers
+
+-- the answer of a turn that found f
+abbrev pub answerBy : Find → Task → Answer
+answerBy f Idle = Read
+answerBy f (Scan t) = cond (f .found) (Page (f .lender) (f .at) (t + 1)) Read
+answerBy f (Update w t) = Read
+answerBy f (Ready w at t) = Written (t + 1)
+
+-- the page list after it: "its first n are written by a page answer; later words, and all words on any other turn, remain"
+abbrev pub pageBy : Access → Find → Task → List ℕ → List ℕ
+pageBy a f Idle page = page
+pageBy a f (Scan t) page = cond (f .found) (over (a .n) (f .words) page) page
+pageBy a f (Update w t) page = page
+pageBy a f (Ready w at t) page = page

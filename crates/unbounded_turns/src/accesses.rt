@@ -1,0 +1,57 @@
+// Which register a turn reads, and where in its double collect.
+use crate::Access;
+use snapshot::Day;
+use unbounded::Task;
+ghost use mathlib.Core.Path.{_≡_};
+ghost use Prim.Native.Nat.{_*_, _≤_, _<_};
+ghost use Rattle.unbounded.specs.Turns.{position, placeAt};
+ghost use Rattle.unbounded_turns.specs.Accesses.{AllowsTurn, Sound, nextPosition, accessOf};
+
+// Where reading turn t stands in its double collect.
+pub fn position_of(n: usize, t: u32) -> usize
+    requires { ⌜ (0 < n) × (n ≤ 8) ⌝ }
+    ensures { λ r. ⌜ r ≡ position n t ⌝ }
+{
+    (t as usize) % (2 * n)
+}
+
+// Where the next read of a task stands in its double collect.
+pub fn next_position(n: usize, k: Task) -> usize
+    requires { ⌜ (0 < n) × (n ≤ 8) ⌝ }
+    ensures { λ r. ⌜ r ≡ nextPosition n k ⌝ }
+    ensures { λ r. ⌜ r < 2 * n ⌝ }
+{
+    match k {
+        Task::Idle => 0,
+        Task::Scan { turns } => position_of(n, turns),
+        Task::Update { word: _, turns } => position_of(n, turns),
+        Task::Ready {
+            word: _,
+            at: _,
+            turns: _,
+        } => 0,
+    }
+}
+
+// What the next turn of a task goes by.
+pub fn access_of(day: Day, k: Task) -> Access
+    requires { ⌜ AllowsTurn day ⌝ }
+    ensures { λ a. ⌜ a ≡ accessOf day k ⌝ }
+    ensures { λ a. ⌜ Sound a ⌝ }
+{
+    let n = day.count as usize;
+    Access {
+        n,
+        now: day.event + 1,
+        pos: next_position(n, k),
+    }
+}
+
+// The place of a turn's read in its collect, which is the record that it reads.
+pub fn place_of(a: Access) -> usize
+    requires { ⌜ Sound a ⌝ }
+    ensures { λ r. ⌜ r ≡ placeAt (a .n) (a .pos) ⌝ }
+    ensures { λ r. ⌜ r < a .n ⌝ }
+{
+    if a.pos < a.n { a.pos } else { a.pos - a.n }
+}

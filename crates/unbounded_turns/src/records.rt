@@ -1,0 +1,158 @@
+// The record of a process by value: its parts, and the record after a call, a read, a write or an answer. A record is copied once and
+// changed in place; its task is stored by the caller.
+use crate::Access;
+use crate::Find;
+use crate::collects;
+use crate::tasks;
+use admission::words::over_words;
+use snapshot::Day;
+use unbounded::Process;
+use unbounded::Register;
+use unbounded::Task;
+ghost use mathlib.Core.Path.{_≡_};
+ghost use Prim.Native.Nat.{_*_, _≤_, _<_};
+ghost use Rattle.unbounded.specs.Processes.{isIdle, zeroProcess, begin};
+ghost use Rattle.unbounded.specs.Turns.{endAfter};
+ghost use Rattle.unbounded_turns.specs.Accesses.{Sound};
+ghost use Rattle.unbounded_turns.specs.Steps.{readBy, writtenBy};
+
+// A record in which every number is 0, and which is idle.
+pub fn zero() -> Process
+    ensures { λ p. ⌜ p ≡ zeroProcess ⌝ }
+{
+    let r = collects::no_register();
+    Process {
+        register: r,
+        task: Task::Idle,
+        first: [r; 8],
+        second: [r; 8],
+        first_end: 0,
+        view: [0; 8],
+        moved: [false; 8],
+    }
+}
+
+// The task of a record.
+pub fn task_of(p: Process) -> Task
+    ensures { λ k. ⌜ k ≡ p .task ⌝ }
+{
+    p.task
+}
+
+// The register of a record.
+pub fn register_of(p: Process) -> Register
+    ensures { λ r. ⌜ r ≡ p .register ⌝ }
+{
+    p.register
+}
+
+// Whether a record has no task.
+pub fn rests(p: Process) -> bool
+    ensures { λ b. ⌜ b ≡ isIdle (p .task) ⌝ }
+{
+    let k = p.task;
+    tasks::is_idle(k)
+}
+
+// The record with nothing collected, on a day of n processes.
+pub fn cleared(n: usize, p: Process) -> Process
+    requires { ⌜ n ≤ 8 ⌝ }
+    ensures { λ q. ⌜ q ≡ begin n (p .task) p ⌝ }
+{
+    let none = collects::no_register();
+    let mut q = p;
+    let mut i = 0;
+    while i < n {
+        let a = q.first[i];
+        let b = q.second[i];
+        q.first[i] = collects::lay(n, none, a);
+        q.second[i] = collects::lay(n, none, b);
+        q.view[i] = 0;
+        i += 1;
+    }
+    let unmarked = [false; 8];
+    q.moved = unmarked;
+    q.first_end = 0;
+    q
+}
+
+// The same as a call begins a task, and as the turn that ends one leaves it.
+pub fn begun(day: Day, p: Process) -> Process
+    requires { ⌜ day .count ≤ 8 ⌝ }
+    ensures { λ q. ⌜ q ≡ begin (day .count) (p .task) p ⌝ }
+{
+    cleared(day.count as usize, p)
+}
+
+pub fn over(a: Access, p: Process) -> Process
+    requires { ⌜ a .n ≤ 8 ⌝ }
+    ensures { λ q. ⌜ q ≡ begin (a .n) (p .task) p ⌝ }
+{
+    cleared(a.n, p)
+}
+
+// The number of the turn that ended the first collect.
+pub fn end_of(a: Access, end: u32) -> u32
+    requires { ⌜ Sound a ⌝ }
+    ensures { λ r. ⌜ r ≡ endAfter (a .n) (a .pos) (a .now) end ⌝ }
+{
+    if a.pos + 1 == a.n { a.now } else { end }
+}
+
+// The record of task k once r is read by a turn that found f.
+pub fn read(a: Access, r: Register, k: Task, f: Find, p: Process) -> Process
+    requires { ⌜ Sound a × (f .passed ≤ 8) ⌝ }
+    ensures { λ q. ⌜ q ≡ readBy a r p f k ⌝ }
+{
+    let n = a.n;
+    let pos = a.pos;
+    let v = p.view;
+    let words = f.words;
+    let mut q = p;
+    q.first_end = end_of(a, q.first_end);
+    if pos < n {
+        let old = q.first[pos];
+        q.first[pos] = collects::lay(n, r, old);
+    } else {
+        let i = pos - n;
+        let old = q.second[i];
+        q.second[i] = collects::lay(n, r, old);
+    }
+    if tasks::keeps(k, f) {
+        let view = over_words(n, words, v);
+        q.view = view;
+    }
+    if 0 < f.passed {
+        let first = q.first;
+        let second = q.second;
+        let marks = q.moved;
+        let moved = collects::mark(f.passed, first, second, marks);
+        q.moved = moved;
+    }
+    q
+}
+
+// The register after the turn of a record: an update that is ready writes it.
+pub fn written(a: Access, p: Process) -> Register
+    requires { ⌜ (a .n ≤ 8) × (p .register .seq < 4294967295) ⌝ }
+    ensures { λ x. ⌜ x ≡ writtenBy a p (p .task) ⌝ }
+{
+    let n = a.n;
+    let k = p.task;
+    let old = p.register;
+    let view = p.view;
+    match k {
+        Task::Idle => old,
+        Task::Scan { turns: _ } => old,
+        Task::Update { word: _, turns: _ } => old,
+        Task::Ready { word, at, turns: _ } => {
+            let r = Register {
+                word,
+                seq: old.seq + 1,
+                view,
+                at,
+            };
+            collects::lay(n, r, old)
+        }
+    }
+}
