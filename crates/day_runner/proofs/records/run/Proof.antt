@@ -54,7 +54,7 @@ use Rattle.day_runner.specs.Input.{Within, Ends}
 use Rattle.day_runner.specs.Records.{requestOf, askedOutcome, askedTable, askedPage}
 use Rattle.day_runner.specs.Rounds.{Stand, goes, nextIn, lentTo, rounds, ran}
 use Rattle.unbounded.proofs.Process.Laws as Pr′
-use Rattle.memory.proofs.Outcome.Laws as O′
+use Rattle.snapshot.proofs.Outcome.Laws as O′
 use Rattle.snapshot.proofs.Request.Laws as Q′
 use Rattle.dayfile.proofs.Reading.Laws as X′
 use Rattle.day_runner.proofs.records.Place.Laws as P′
