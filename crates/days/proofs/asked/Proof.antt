@@ -45,23 +45,23 @@ use Rattle.memory.specs.Tables.{outcomeOf}
 use Rattle.memory.proofs.Walks.{held, Row, also, a-bool, a-day, a-request, an-outcome, leaves-if, says-all, three-facts, taken}
 use Rattle.memory.proofs.Calls.{calls-is}
 use Rattle.memory.proofs.Stepping.{Step, result, table-after, page-after, calls-step}
-use Rattle.day_runner.specs.Records.{isNone, requestOf, unaskedOf, askedOutcome, askedTable, askedPage}
-use Rattle.day_runner.proofs.Data.{a-reading}
-use Rattle.day_runner.proofs.records.is_none as g₁
-use Rattle.day_runner.proofs.records.is_none.Symbol as g₁-def
-use Rattle.day_runner.proofs.records.is_none.Met as g₁-thm
-use Rattle.day_runner.proofs.records.unasked as g₂
-use Rattle.day_runner.proofs.records.unasked.Symbol as g₂-def
-use Rattle.day_runner.proofs.records.unasked.Met as g₂-thm
-use Rattle.day_runner.proofs.records.request_of as g₃
-use Rattle.day_runner.proofs.records.request_of.Symbol as g₃-def
-use Rattle.day_runner.proofs.records.request_of.Met as g₃-thm
+use Rattle.days.specs.Asking.{isNone, requestOf, unaskedOf, askedOutcome, askedTable, askedPage}
+use Rattle.days.proofs.Data.{a-reading}
+use Rattle.days.proofs.is_none as g₁
+use Rattle.days.proofs.is_none.Symbol as g₁-def
+use Rattle.days.proofs.is_none.Met as g₁-thm
+use Rattle.days.proofs.unasked as g₂
+use Rattle.days.proofs.unasked.Symbol as g₂-def
+use Rattle.days.proofs.unasked.Met as g₂-thm
+use Rattle.days.proofs.request_of as g₃
+use Rattle.days.proofs.request_of.Symbol as g₃-def
+use Rattle.days.proofs.request_of.Met as g₃-thm
 use Rattle.memory.proofs.table.step.Symbol as g₄-def
 use Rattle.memory.proofs.table.step.Met as g₄-thm
-use Rattle.day_runner.proofs.records.asked.Key.{name as #f}
-use Rattle.day_runner.proofs.records.asked as f
-use Rattle.day_runner.proofs.records.asked.Statement as stated
-use Rattle.day_runner.proofs.records.asked.Code as code
+use Rattle.days.proofs.asked.Key.{name as #f}
+use Rattle.days.proofs.asked as f
+use Rattle.days.proofs.asked.Statement as stated
+use Rattle.days.proofs.asked.Code as code
 
 abbrev stayed : Stays (f.ended .signature .params) (f.ended .kept)
 stayed = (stay-dropped (plain (λ _. a-day .row)) yes, (stay-slice (0 ∷ []) tt (plain (λ _. Row)), (stay-dropped (plain (λ _. a-reading .row)) yes, (stay-slice (1 ∷ []) tt (plain (λ _. u32)), tt))))
@@ -179,8 +179,8 @@ asked-spec 𝓤 H 𝓜 𝓖 𝓡 =
     entered 𝓤 H (tripleOf 𝓤 H (𝓖 .A) f.signature (f.spec 𝓤 H (𝓖 .A) (𝓜 .mem) (𝓡 .run)))
     (tables 𝓤 H 𝓜 𝓡 code.env .C) (tables 𝓤 H 𝓜 𝓡 code.env .Λ) #f code.function (code.unfolded 𝓤 H 𝓜 𝓡)
     (meets 𝓤 H (𝓖 .A) (givenOf 𝓤 H 𝓜 𝓖) (𝓜 .mem) (𝓡 .run) (tablesOf 𝓤 H 𝓜 (tables 𝓤 H 𝓜 𝓡 code.env)) (
-      cited 𝓤 H (G₁ 𝓤 H (𝓖 .A) (𝓜 .mem) (𝓡 .run)) 𝓜 𝓡 code.env g₁-def.name g₁-def.routine code.calls-day-runner·records·is-none (g₁-thm.met 𝓤 H 𝓜 𝓖 𝓡),
-      cited 𝓤 H (G₂ 𝓤 H (𝓖 .A) (𝓜 .mem) (𝓡 .run)) 𝓜 𝓡 code.env g₂-def.name g₂-def.routine code.calls-day-runner·records·unasked (g₂-thm.met 𝓤 H 𝓜 𝓖 𝓡),
-      cited 𝓤 H (G₃ 𝓤 H (𝓖 .A) (𝓜 .mem) (𝓡 .run)) 𝓜 𝓡 code.env g₃-def.name g₃-def.routine code.calls-day-runner·records·request-of (g₃-thm.met 𝓤 H 𝓜 𝓖 𝓡),
+      cited 𝓤 H (G₁ 𝓤 H (𝓖 .A) (𝓜 .mem) (𝓡 .run)) 𝓜 𝓡 code.env g₁-def.name g₁-def.routine code.calls-days·is-none (g₁-thm.met 𝓤 H 𝓜 𝓖 𝓡),
+      cited 𝓤 H (G₂ 𝓤 H (𝓖 .A) (𝓜 .mem) (𝓡 .run)) 𝓜 𝓡 code.env g₂-def.name g₂-def.routine code.calls-days·unasked (g₂-thm.met 𝓤 H 𝓜 𝓖 𝓡),
+      cited 𝓤 H (G₃ 𝓤 H (𝓖 .A) (𝓜 .mem) (𝓡 .run)) 𝓜 𝓡 code.env g₃-def.name g₃-def.routine code.calls-days·request-of (g₃-thm.met 𝓤 H 𝓜 𝓖 𝓡),
       cited 𝓤 H (G₄ 𝓤 H (𝓖 .A) (𝓜 .mem) (𝓡 .run)) 𝓜 𝓡 code.env g₄-def.name g₄-def.routine code.calls-memory·table·step (g₄-thm.met 𝓤 H 𝓜 𝓖 𝓡),
     ))

@@ -1,0 +1,3 @@
+-- What asking keeps, and what the walks over what was read share.
+pub mod Data
+pub mod Kept
