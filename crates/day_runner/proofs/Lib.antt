@@ -1,4 +1,4 @@
--- What the runner's rounds print, and what its walks share.
+-- What the runner's laps print, and what its walks share.
 pub mod Printing
-pub mod Rounds
+pub mod Laps
 pub mod Data

@@ -11,6 +11,6 @@ pub record Within (i : Input) (n : ℕ) : Type 0 where
   pub start : i .at ≤ i .end
   pub stop : i .end ≤ n
 
--- a record that was found ends within the input
-abbrev pub Ends : Reading → Input → Type 0
-Ends x i = (r : Request) (k : ℕ) → x ≡ Found r k → i .at + k ≤ i .end
+-- a record that was found takes no more than is left
+abbrev pub Takes : Reading → Input → Type 0
+Takes x i = (r : Request) (k : ℕ) → x ≡ Found r k → i .at + k ≤ i .end

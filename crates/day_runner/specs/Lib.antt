@@ -1,5 +1,4 @@
--- What the day runner keeps true of its input buffer, what it asks, what it prints, and its rounds.
+-- What the day runner keeps true of its input buffer, what it prints, and its laps.
 pub mod Input
-pub mod Records
 pub mod Printed
-pub mod Rounds
+pub mod Laps

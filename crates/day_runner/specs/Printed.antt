@@ -1,14 +1,18 @@
--- What the day runner prints (document 01, Day files and the day runner): the line of a record and its answer, and those of the end.
+-- What the day runner prints of a day file (document 01, Day files and the day runner).
 use Prim.Native.Nat.{ℕ}
 use mathlib.Core.Bool.{Bool, true, false}
+use mathlib.Core.List.{List, [], _∷_, _++_}
 use Rattle.snapshot.specs.Refusals.{numberOf}
-use Rattle.snapshot.specs.Requests.{numberIn}
+use Rattle.snapshot.specs.Requests.{blankDay, numberIn}
+use Rattle.snapshot.specs.declared.Day.{Day}
 use Rattle.snapshot.specs.declared.Request.{Request}
 use Rattle.snapshot.specs.declared.Request.the-variants as Asked
 use Rattle.snapshot.specs.declared.Answer.{Answer}
 use Rattle.snapshot.specs.declared.Answer.the-variants as Told
 use Rattle.dayfile.specs.declared.Reading.{Reading}
 use Rattle.dayfile.specs.declared.Reading.the-variants.{Found, End, Refused}
+use Rattle.days.specs.Happenings.{Happening, dayOf, dayAfter}
+use Rattle.daytext.specs.Lines.{textOf}
 use Rattle.daytext.specs.declared.Line.{Line}
 use Rattle.daytext.specs.declared.Line.the-variants as Printed
 use Rattle.snapshot.specs.declared.Outcome.{Outcome}
@@ -39,3 +43,19 @@ abbrev pub isEnd : Reading → Bool
 isEnd (Found x next) = false
 isEnd End = true
 isEnd (Refused k) = false
+
+-- the text of the line of what happened, and that of all that did
+abbrev pub lineIn : Happening → List ℕ
+lineIn h = textOf (lineOf (h .outcome) (h .reading)) (h .words)
+
+abbrev pub linesOf : List Happening → List ℕ
+linesOf [] = []
+linesOf (h ∷ hs) = lineIn h ++ linesOf hs
+
+-- "prints one line a record, then `end` and the event number", where the day was d before
+unfoldable pub printout : Day → List Happening → List ℕ
+printout d hs = linesOf hs ++ textOf (Printed.End (dayAfter d hs .event)) []
+
+-- what a day file prints
+abbrev pub printed : List ℕ → List ℕ
+printed bs = printout blankDay (dayOf bs)

@@ -20,19 +20,19 @@ fn write_out(buf: &[u8], n: usize) -> bool {
 
 // Fills up the input, runs the records that lie whole in it, and writes the output where it is nearly full or all is done.
 fn pass(r: Running, bytes: &mut [u8], out: &mut [u8]) -> Running
-    requires { ⌜ Within (r .place .input) (length (now bytes)) ⌝ }
-    ensures { λ x. ⌜ Within (x .place .input) (length (now (bytes .exit))) ⌝ }
+    requires { ⌜ Within (r .progress .input) (length (now bytes)) ⌝ }
+    ensures { λ x. ⌜ Within (x .progress .input) (length (now (bytes .exit))) ⌝ }
 {
-    let at = r.place;
+    let at = r.progress;
     let before = at.input;
     let input = input::refill(STDIN_FILENO, bytes, before);
     let size = bytes.len();
     let mut page = [0u32; 8];
     let ran = records::run(records::refilled(r, input, size), bytes, out, &mut page);
-    if records::is_waiting(ran.place, out.len()) {
+    if records::is_waiting(ran.progress, out.len()) {
         return ran;
     }
-    let went = write_out(out, ran.place.written);
+    let went = write_out(out, ran.progress.written);
     records::flushed(ran, went)
 }
 
@@ -42,7 +42,7 @@ fn main() {
     let mut out = io::large_buffer();
     let mut ran = records::start();
     let mut passes = u64::MAX;
-    while passes > 0 && !ran.place.ended {
+    while passes > 0 && !ran.progress.ended {
         ran = pass(ran, &mut bytes, &mut out);
         passes -= 1;
     }

@@ -1,8 +1,8 @@
 // What the runner prints: the line of each record, by its answer, and those of the end.
 use dayfile::Reading;
 use daytext::Line;
-use snapshot::Outcome;
 use snapshot::Answer;
+use snapshot::Outcome;
 use snapshot::Request;
 ghost use mathlib.Core.Path.{_≡_};
 ghost use mathlib.Core.List.{List};

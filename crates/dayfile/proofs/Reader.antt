@@ -1,20 +1,24 @@
 -- When `reading` finds a record, and what a record that was found says of the bytes.
-use Prim.Native.Nat.{ℕ, _+_, _≤_}
+use Prim.Native.Nat.{ℕ, zero, suc, _+_, _≤_, _<_}
 use native.Mathlib.Omega.{arith}
 use mathlib.Core.Path.{_≡_, refl}
-use mathlib.Core.Bool.{Bool, true, false, cond}
+use mathlib.Core.Bool.{Bool, true, false, cond, _||_, true≢false}
 use mathlib.Core.List.{List}
 use mathlib.Core.Option.{Option, none, some}
 use lib.ListN.{length}
-use lib.Dec.{eqb}
-use borrow.Author.Tests.{le-ltb, eq-eqb, ne-eqb}
+use lib.Dec.{eqb, ltb}
+use borrow.Author.Tests.{ltb-false, le-ltb, eq-eqb, ne-eqb}
 use Rattle.snapshot.specs.declared.Refusal.{Refusal}
 use Rattle.snapshot.specs.Refusals.{firstCause}
 use Rattle.snapshot.proofs.Causes.{Passes, accepted-passes}
 use Rattle.snapshot.specs.declared.Request.{Request}
-use Rattle.dayfile.specs.declared.Reading.the-variants.{Found, End}
+use Rattle.dayfile.specs.declared.Reading.the-variants.{Found, End, Refused}
 use Rattle.dayfile.specs.Layout.{lengthOf}
-use Rattle.dayfile.specs.Reader.{lengthIn, kindIn, causes, recordOf, outcome, reading}
+use Rattle.dayfile.specs.Reader.{lengthIn, kindIn, readingCauses, recordOf, readingBy, reading}
+
+pub neither : (a b : Bool) → a || b ≡ false → (a ≡ false) × (b ≡ false)
+neither true b q = absurd (true≢false q)
+neither false b q = (refl, q)
 
 module _ (bs : List ℕ) where
   -- a whole record of a known kind is found
@@ -34,12 +38,30 @@ module _ (bs : List ℕ) where
 
   -- a record that is found passes every cause, is the record of its kind, and ends where its length says
   pub found-is : (r : Request) (next : ℕ) → reading bs ≡ Found r next →
-      Passes (causes bs) × (r ≡ recordOf bs (kindIn bs)) × (next ≡ 2 + lengthIn bs)
+      Passes (readingCauses bs) × (r ≡ recordOf bs (kindIn bs)) × (next ≡ 2 + lengthIn bs)
   unfolding reading
-  found-is r next = go (eqb (length bs) 0) (firstCause (causes bs)) (accepted-passes (causes bs))
+  found-is r next = go (eqb (length bs) 0) (firstCause (readingCauses bs)) (accepted-passes (readingCauses bs))
     where
-      go : (b : Bool) (o : Option Refusal) → (o ≡ none → Passes (causes bs)) → cond b End (outcome bs o) ≡ Found r next →
-          Passes (causes bs) × (r ≡ recordOf bs (kindIn bs)) × (next ≡ 2 + lengthIn bs)
+      go : (b : Bool) (o : Option Refusal) → (o ≡ none → Passes (readingCauses bs)) → cond b End (readingBy bs o) ≡ Found r next →
+          Passes (readingCauses bs) × (r ≡ recordOf bs (kindIn bs)) × (next ≡ 2 + lengthIn bs)
       go true o p h = let z : _≡_ {A = ℕ} 0 1 = cc in absurd (omega arith)
       go false none p h = (p refl, cc, cc)
       go false (some k) p h = let z : _≡_ {A = ℕ} 0 1 = cc in absurd (omega arith)
+
+  -- and takes at least six bytes, and no more than are left
+  pub found-consumes : (r : Request) (next : ℕ) → reading bs ≡ Found r next → (6 ≤ next) × (next ≤ length bs)
+  found-consumes r next q =
+      let is = found-is r next q in
+      let long : 4 ≤ lengthIn bs = ltb-false (lengthIn bs) 4 (neither (ltb (lengthIn bs) 4) (ltb 8 (lengthIn bs)) (is .0 .1 .0) .0) in
+      let whole : 2 + lengthIn bs ≤ length bs = ltb-false (length bs) (2 + lengthIn bs) (is .0 .1 .1 .0) in
+      let end : next ≡ 2 + lengthIn bs = is .2 in
+      (omega arith, omega arith)
+
+  -- where there is a refusal, there are bytes
+  pub refused-some : (k : Refusal) → reading bs ≡ Refused k → 0 < length bs
+  unfolding reading
+  refused-some k q = go (length bs) q
+    where
+      go : (n : ℕ) → cond (eqb n 0) End (readingBy bs (firstCause (readingCauses bs))) ≡ Refused k → 0 < n
+      go zero q = let z : _≡_ {A = ℕ} 0 1 = cc in absurd (omega arith)
+      go (suc n) q = omega arith

@@ -9,7 +9,7 @@ use lib.Dec.{eqb}
 use Rattle.snapshot.specs.declared.Request.{Request}
 use Rattle.snapshot.specs.declared.Request.the-variants.{Open, Update, Scan, Turn}
 use Rattle.dayfile.specs.declared.Reading.the-variants.{Found}
-use Rattle.dayfile.specs.Layout.{Bytes, bytesOf, Fits, layout, lengthOf}
+use Rattle.dayfile.specs.Layout.{Bytes, bytesOf, FieldsFit, layout, lengthOf}
 use Rattle.dayfile.specs.Reader.{kindIn, recordOf, reading}
 use Rattle.dayfile.proofs.Numbers.{number-read-back, number-fits}
 use Rattle.dayfile.proofs.Reader.{finds-whole, found-is}
@@ -19,7 +19,7 @@ abbrev head : (len kind : ℕ) → List ℕ
 head len kind = bytesOf 2 len ++ bytesOf 2 kind
 
 -- a record whose numbers fit is read back from its bytes, whatever follows them
-pub layout-read-back : (r : Request) → Fits r → (rest : List ℕ) → reading (layout r ++ rest) ≡ Found r (length (layout r))
+pub layout-read-back : (r : Request) → FieldsFit r → (rest : List ℕ) → reading (layout r ++ rest) ≡ Found r (length (layout r))
 unfolding recordOf lengthOf
 layout-read-back (Open count) h rest =
     finds-whole (layout (Open count) ++ rest) (omega arith) (omega arith) (omega arith) refl
@@ -36,11 +36,11 @@ layout-read-back (Turn process) h rest =
     finds-whole (layout (Turn process) ++ rest) (omega arith) (omega arith) (omega arith) refl
     ∙ ap (λ n. Found (Turn n) 6) (number-read-back 2 process (head 4 4) rest h)
 
-either-fits : (b : Bool) (x y : Request) → Fits x → Fits y → Fits (cond b x y)
+either-fits : (b : Bool) (x y : Request) → FieldsFit x → FieldsFit y → FieldsFit (cond b x y)
 either-fits true x y p q = p
 either-fits false x y p q = q
 
-record-fits : (bs : List ℕ) (kind : ℕ) → Bytes bs → Fits (recordOf bs kind)
+record-fits : (bs : List ℕ) (kind : ℕ) → Bytes bs → FieldsFit (recordOf bs kind)
 unfolding recordOf
 record-fits bs kind h =
     let first = number-fits 2 bs 4 h in
@@ -48,5 +48,5 @@ record-fits bs kind h =
     (either-fits (eqb kind 2) _ _ (first, number-fits 4 bs 6 h) (either-fits (eqb kind 3) _ _ first first))
 
 -- every number in a record that was read fits its field
-pub read-fits : (bs : List ℕ) → Bytes bs → (r : Request) (next : ℕ) → reading bs ≡ Found r next → Fits r
-read-fits bs h r next q = subst Fits (sym (found-is bs r next q .1)) (record-fits bs (kindIn bs) h)
+pub read-fits : (bs : List ℕ) → Bytes bs → (r : Request) (next : ℕ) → reading bs ≡ Found r next → FieldsFit r
+read-fits bs h r next q = subst FieldsFit (sym (found-is bs r next q .1)) (record-fits bs (kindIn bs) h)

@@ -24,11 +24,11 @@ numberAt (suc k) bs at = getD bs at 0 + 256 * numberAt k bs (at + 1)
 -- ---- records
 
 -- the numbers fit their fields: "Every field is 16 bits but the word, 32"
-abbrev pub Fits : Request → Type 0
-Fits (Open count) = count < 2 ^ 16
-Fits (Update process word) = (process < 2 ^ 16) × (word < 2 ^ 32)
-Fits (Scan process) = process < 2 ^ 16
-Fits (Turn process) = process < 2 ^ 16
+abbrev pub FieldsFit : Request → Type 0
+FieldsFit (Open count) = count < 2 ^ 16
+FieldsFit (Update process word) = (process < 2 ^ 16) × (word < 2 ^ 32)
+FieldsFit (Scan process) = process < 2 ^ 16
+FieldsFit (Turn process) = process < 2 ^ 16
 
 -- "a two-byte kind", and the fields (the table, columns Kind and After the kind)
 abbrev pub body : Request → List ℕ

@@ -23,8 +23,8 @@ abbrev pub kindIn : List ℕ → ℕ
 kindIn bs = numberAt 2 bs 2
 
 -- "7 if only one byte is left; 9 for a length outside 4 to 8; 7 if the body is short; 8; 9 for the kind"
-abbrev pub causes : List ℕ → List Cause
-causes bs =
+abbrev pub readingCauses : List ℕ → List Cause
+readingCauses bs =
     (eqb (length bs) 1, CutShort)
     ∷ (ltb (lengthIn bs) 4 || ltb 8 (lengthIn bs), WrongLength)
     ∷ (ltb (length bs) (2 + lengthIn bs), CutShort)
@@ -42,10 +42,10 @@ recordOf bs kind =
     (Turn first)))
 
 -- "either one record and the place of the next, or a refusal"
-abbrev pub outcome : List ℕ → Option Refusal → Reading
-outcome bs none = Found (recordOf bs (kindIn bs)) (2 + lengthIn bs)
-outcome bs (some k) = Refused k
+abbrev pub readingBy : List ℕ → Option Refusal → Reading
+readingBy bs none = Found (recordOf bs (kindIn bs)) (2 + lengthIn bs)
+readingBy bs (some k) = Refused k
 
 -- the reader's answer; "No bytes left is the ordinary end"
 unfoldable pub reading : List ℕ → Reading
-reading bs = cond (eqb (length bs) 0) End (outcome bs (firstCause (causes bs)))
+reading bs = cond (eqb (length bs) 0) End (readingBy bs (firstCause (readingCauses bs)))

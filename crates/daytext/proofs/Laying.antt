@@ -9,7 +9,7 @@ use lib.ListN.{length, take, drop, set, length-append, take-append-drop}
 use lib.Seq.{length-take-le, take-at, drop-at, drop-drop, set-split, take-set-le}
 use Rattle.daytext.specs.declared.Line.{Line}
 use Rattle.daytext.specs.Lines.{textOf}
-use Rattle.daytext.specs.Buffer.{laid, Laid, longest, isLaid, laidPlace, laidText}
+use Rattle.daytext.specs.Buffer.{withText, Laid, longest, isLaid, laidPlace, laidText}
 
 -- ---- text
 
@@ -18,57 +18,57 @@ module _ (out : List ℕ) (at : ℕ) where
   length-front s h = simp (length-append, length-take-le at out h)
 
   -- what stands before the place after the text
-  pub take-laid : (s : List ℕ) → at ≤ length out → take (at + length s) (laid out at s) ≡ take at out ++ s
-  unfolding laid
+  pub take-laid : (s : List ℕ) → at ≤ length out → take (at + length s) (withText out at s) ≡ take at out ++ s
+  unfolding withText
   take-laid s h = take-at (take at out ++ s) (drop (at + length s) out) (at + length s) (length-front s h)
 
   -- and what stands after it
-  pub drop-laid : (s : List ℕ) → at ≤ length out → drop (at + length s) (laid out at s) ≡ drop (at + length s) out
-  unfolding laid
+  pub drop-laid : (s : List ℕ) → at ≤ length out → drop (at + length s) (withText out at s) ≡ drop (at + length s) out
+  unfolding withText
   drop-laid s h = drop-at (take at out ++ s) (drop (at + length s) out) (at + length s) (length-front s h)
 
-  pub laid-nothing : laid out at [] ≡ out
-  unfolding laid
+  pub laid-nothing : withText out at [] ≡ out
+  unfolding withText
   laid-nothing = simp (append-nil, add-zero, take-append-drop)
 
   -- one text, and another where it ends
-  laid-then : (s t : List ℕ) → at ≤ length out → laid (laid out at s) (at + length s) t ≡ laid out at (s ++ t)
-  unfolding laid
+  laid-then : (s t : List ℕ) → at ≤ length out → withText (withText out at s) (at + length s) t ≡ withText out at (s ++ t)
+  unfolding withText
   laid-then s t h =
       let end : at + length s + length t ≡ at + length (s ++ t) = simp length-append (omega arith) in
-      let rest : drop (at + length s + length t) (laid out at s) ≡ drop (at + length (s ++ t)) out
-      = sym (drop-drop (length t) (at + length s) (laid out at s))
+      let rest : drop (at + length s + length t) (withText out at s) ≡ drop (at + length (s ++ t)) out
+      = sym (drop-drop (length t) (at + length s) (withText out at s))
       ∙ ap (drop (length t)) (drop-laid s h)
       ∙ drop-drop (length t) (at + length s) out
       ∙ ap (λ k. drop k out) end in
       ap₂ (λ a r. a ++ t ++ r) (take-laid s h) rest ∙ simp append-assoc
 
-  pub laid-byte : (b : ℕ) → at < length out → set out at b ≡ laid out at (b ∷ [])
-  unfolding laid
+  pub laid-byte : (b : ℕ) → at < length out → set out at b ≡ withText out at (b ∷ [])
+  unfolding withText
   laid-byte b h =
       let end : suc at ≡ at + 1 = omega arith in
       set-split out at b h ∙ ap (λ k. take at out ++ b ∷ drop k out) end ∙ simp append-assoc
 
   -- the last byte of a text, and then what is before it
   pub laid-last : (s : List ℕ) (b : ℕ) → at + length s < length out
-      → laid (set out (at + length s) b) at s ≡ laid out at (s ++ (b ∷ []))
-  unfolding laid
+      → withText (set out (at + length s) b) at s ≡ withText out at (s ++ (b ∷ []))
+  unfolding withText
   laid-last s b h =
-      let place = at + length s in
+      let seam = at + length s in
       let end : suc (at + length s) ≡ at + length (s ++ (b ∷ [])) = simp length-append (omega arith) in
       let rest : drop (at + length s) (set out (at + length s) b) ≡ b ∷ drop (at + length (s ++ (b ∷ []))) out
-      = ap (drop place) (set-split out place b h)
-      ∙ drop-at (take place out) (b ∷ drop (suc place) out) place (length-take-le place out (omega arith))
+      = ap (drop seam) (set-split out seam b h)
+      ∙ drop-at (take seam out) (b ∷ drop (suc seam) out) seam (length-take-le seam out (omega arith))
       ∙ ap (λ k. b ∷ drop k out) end in
-      ap₂ (λ a r. a ++ s ++ r) (take-set-le at out place b (omega arith)) rest ∙ simp append-assoc
+      ap₂ (λ a r. a ++ s ++ r) (take-set-le at out seam b (omega arith)) rest ∙ simp append-assoc
 
 -- two texts laid one after the other are both laid as one
 pub in-turn : {out : List ℕ} {at : ℕ} {s mid : List ℕ} {a : ℕ} {t after : List ℕ} {r : ℕ}
     → at ≤ length out → Laid out at s mid a → Laid mid a t after r → Laid out at (s ++ t) after r
 in-turn {out} {at} {s} {t = t} h one two =
     record {
-      buffer = two .buffer ∙ ap₂ (λ m k. laid m k t) (one .buffer) (one .place) ∙ laid-then out at s t h;
-      place = two .place ∙ ap (λ k. k + length t) (one .place) ∙ simp length-append (omega arith);
+      buffer = two .buffer ∙ ap₂ (λ m k. withText m k t) (one .buffer) (one .end) ∙ laid-then out at s t h;
+      end = two .end ∙ ap (λ k. k + length t) (one .end) ∙ simp length-append (omega arith);
     }
 
 pub laid-as : {out : List ℕ} {at : ℕ} {s t after : List ℕ} {r : ℕ} → s ≡ t → Laid out at s after r → Laid out at t after r
@@ -78,7 +78,7 @@ laid-as e l = rw e at l
 
 module _ (line : Line) (ws out : List ℕ) (at : ℕ) where
   pub laid-with-room : length ws ≤ 8 → at + longest ≤ length out
-      → (laidPlace line ws out at ≡ at + length (textOf line ws)) × (laidText line ws out at ≡ laid out at (textOf line ws))
+      → (laidPlace line ws out at ≡ at + length (textOf line ws)) × (laidText line ws out at ≡ withText out at (textOf line ws))
   unfolding laidPlace laidText isLaid
   laid-with-room w h =
       let e = le-leb (length ws) 8 w in

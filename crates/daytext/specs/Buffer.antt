@@ -9,13 +9,13 @@ use Rattle.daytext.specs.declared.Line.{Line}
 use Rattle.daytext.specs.Lines.{textOf}
 
 -- the buffer with the text from place at on, and as it was before and after the text
-unfoldable pub laid : List ℕ → ℕ → List ℕ → List ℕ
-laid out at text = take at out ++ text ++ drop (at + length text) out
+unfoldable pub withText : List ℕ → ℕ → List ℕ → List ℕ
+withText out at text = take at out ++ text ++ drop (at + length text) out
 
 -- the text was laid into the buffer out from place at on: the buffer after that, and the place r after the text
 pub record Laid (out : List ℕ) (at : ℕ) (text after : List ℕ) (r : ℕ) : Type 0 where
-  pub buffer : after ≡ laid out at text
-  pub place : r ≡ at + length text
+  pub buffer : after ≡ withText out at text
+  pub end : r ≡ at + length text
 
 -- the bytes that are kept free for one line
 abbrev pub longest : ℕ
@@ -31,4 +31,4 @@ laidPlace line ws out at = cond (isLaid ws out at) (at + length (textOf line ws)
 
 -- the buffer with the line, or as it was where it is not laid
 unfoldable pub laidText : Line → List ℕ → List ℕ → ℕ → List ℕ
-laidText line ws out at = cond (isLaid ws out at) (laid out at (textOf line ws)) out
+laidText line ws out at = cond (isLaid ws out at) (withText out at (textOf line ws)) out

@@ -5,7 +5,7 @@ ghost use mathlib.Core.List.{[], _∷_, _++_, map};
 ghost use lib.ListN.{length};
 ghost use Rattle.daytext.specs.Decimal.{decimal, lastDigits};
 ghost use Rattle.daytext.specs.Lines.{spaced};
-ghost use Rattle.daytext.specs.Buffer.{laid, Laid};
+ghost use Rattle.daytext.specs.Buffer.{withText, Laid};
 
 // Lays one byte.
 pub fn byte(b: u8, out: &mut [u8], at: usize) -> usize
@@ -64,7 +64,7 @@ fn places(n: u32) -> usize
 // Stores the last k digits of n at `at`, from the right.
 fn digits(n: u32, k: usize, out: &mut [u8], at: usize)
     requires { ⌜ at + k ≤ length (now out) ⌝ }
-    ensures { λ _. ⌜ now (out .exit) ≡ laid (now (out .entry)) at (lastDigits k n) ⌝ }
+    ensures { λ _. ⌜ now (out .exit) ≡ withText (now (out .entry)) at (lastDigits k n) ⌝ }
 {
     let mut rest = n;
     let mut i = k;

@@ -36,8 +36,8 @@ use Rattle.unbounded.specs.Processes.{noProcess, zeroProcess, isIdle, begin}
 use Rattle.unbounded.specs.Days.{figure3, mostReads, unsound, stepped}
 use Rattle.unbounded_turns.specs.declared.Access.{Access}
 use Rattle.unbounded_turns.specs.declared.Find.{Find}
-use Rattle.unbounded_turns.specs.Accesses.{AllowsTurn, accessOf}
-use Rattle.unbounded_turns.specs.Steps.{taskFor, isReady, nothingFound, stateBy, answerBy, pageBy}
+use Rattle.unbounded_turns.specs.Accesses.{AllowsTurn, isReady, accessOf}
+use Rattle.unbounded_turns.specs.Steps.{taskFor, nothingFound, stateBy, answerBy, pageBy}
 use Rattle.unbounded_turns.specs.Surveys.{surveyOf, surveyedBy}
 use Rattle.unbounded_turns.proofs.Steps.{Accessed, a-read, a-write, turn-is-steps}
 use Rattle.unbounded_turns.proofs.Unsound.{survey-is-bad, reads-up-to-8, sound-has-room}
@@ -217,7 +217,7 @@ module _ (day : Day) (ps : List Process) where
         let inside = admits-inside page x item accepted in
         let room = a .room in
         let few = sound-has-room (day .count) (day .event) p (a .small) (omega arith)
-            (some-of-false (unsound (mostReads (day .count)) (day .event)) ps noProcess (a .sound) i inside) in
+        (some-of-false (unsound (mostReads (day .count)) (day .event)) ps noProcess (a .sound) i inside) in
         let size = a .size in
         record {
           allows = record { some = a .opened; small = a .small; room = a .room };

@@ -7,7 +7,7 @@ use denote.Enum.Laws as EL
 use Rattle.walks.proofs.Walking.{Datum, Field}
 use Rattle.walks.proofs.Data.{spelled}
 use Rattle.unbounded_turns.specs.Steps.{withTask}
-use Rattle.unbounded_turns.proofs.Steps.{withRegister}
+use Rattle.unbounded_turns.proofs.Parts.{withRegister}
 use Rattle.unbounded.proofs.Process as P
 use Rattle.unbounded.proofs.Process.Laws as P′
 use Rattle.unbounded.proofs.Register as R

@@ -103,7 +103,7 @@ fn turn_on(day: Day, ps: &mut [Process], x: Request, page: &mut [u32]) -> Outcom
 {
     let i = requests::index_in(x);
     let k = elements::task_at(ps, i);
-    if tasks::is_ready(k) {
+    if accesses::is_ready(k) {
         return write_turn(day, ps, i, k);
     }
     read_turn(day, ps, i, k, page)

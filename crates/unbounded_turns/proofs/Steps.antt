@@ -23,15 +23,16 @@ use Rattle.unbounded.specs.declared.Task.{Task}
 use Rattle.unbounded.specs.declared.Task.the-variants.{Idle, Scan, Update, Ready}
 use Rattle.unbounded.specs.Registers.{ascending, pageOf, differs, collectedAt}
 use Rattle.unbounded.specs.Processes.{noProcess, isIdle, begin}
-use Rattle.unbounded.specs.Turns.{reads, position, firstAfter, secondAfter, endAfter, decision, marksAfter, found, afterRead, foundBy}
-use Rattle.unbounded.specs.Turns.{scanTurn, updateTurn, turnedBy, turned}
+use Rattle.unbounded.specs.Turns.{reads, position, firstAfter, secondAfter, endAfter, decision, marksAfter, found, afterRead}
+use Rattle.unbounded.specs.Turns.{foundBy, scanTurn, updateTurn, turnedBy, turned}
 use Rattle.unbounded.specs.Days.{figure3}
 use Rattle.unbounded.proofs.Places.{page-of-long}
 use Rattle.unbounded_turns.specs.declared.Access.{Access}
 use Rattle.unbounded_turns.specs.declared.Find.{Find}
-use Rattle.unbounded_turns.specs.Accesses.{accessOf, registerIn}
-use Rattle.unbounded_turns.specs.Steps.{isReady, decisionFind, findOf, withTask, keepsBy, readBy, endsBy, taskBy, writtenBy, stateBy}
+use Rattle.unbounded_turns.specs.Accesses.{isReady, accessOf, registerIn}
+use Rattle.unbounded_turns.specs.Steps.{decisionFind, findOf, withTask, keepsBy, readBy, endsBy, taskBy, writtenBy, stateBy}
 use Rattle.unbounded_turns.specs.Steps.{answerBy, pageBy}
+use Rattle.unbounded_turns.proofs.Parts.{withRegister, withCollected}
 
 -- a turn in the steps of the code, where it found f
 abbrev pub steps : Access → Register → List ℕ → Process → Find → Task → Result Process
@@ -97,15 +98,7 @@ module _ (n now : ℕ) (r : Register) (page : List ℕ) (p : Process) (t : ℕ) 
   unfolding afterRead readBy marksAfter
   read-is v k k′ w q e =
       let marks = ap (passed n) q ∙ passed-by n end y v in
-      λ i. record {
-        register = p .register;
-        task = k′;
-        first = x;
-        second = y;
-        «first_end» = end;
-        view = e i;
-        moved = markFrom (differs ascending x y) (marks i) 0 (p .moved);
-      }
+      λ i. withTask k′ (withCollected x y end (e i) (markFrom (differs ascending x y) (marks i) 0 (p .moved)) p)
 
   scan-steps : (v : Option Verdict) → decided ≡ v →
       scanTurn ascending n now r page p t (found ascending n y end v) ≡ steps a r page p (finds v) (Scan t)
@@ -205,19 +198,6 @@ turn-is-steps day ps d page {r} {f} (a-write q) = writing-is-steps day page (get
 pub access-count : (day : Day) (k : Task) → accessOf day k .n ≡ day .count
 unfolding accessOf
 access-count day k = refl
-
--- p with another register
-abbrev pub withRegister : Register → Process → Process
-withRegister r p =
-    record {
-      register = r;
-      task = p .task;
-      first = p .first;
-      second = p .second;
-      «first_end» = p .«first_end»;
-      view = p .view;
-      moved = p .moved;
-    }
 
 -- a call: nothing collected, then the task
 pub begin-then-task : (n : ℕ) (k : Task) (p : Process) → withTask k (begin n (p .task) p) ≡ begin n k p

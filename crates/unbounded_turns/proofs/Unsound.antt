@@ -1,7 +1,7 @@
 -- A look at every record of a table finds whether some record cannot have arisen (refusal 11).
 use Prim.Native.Nat.{ℕ, _≤_, _<_}
 use mathlib.Core.Path.{_≡_, refl, sym, ap, _∙_}
-use mathlib.Core.Bool.{Bool, true, false, cond, _||_, or-false, or-assoc}
+use mathlib.Core.Bool.{Bool, true, false, _||_, or-false, or-assoc}
 use mathlib.Core.List.{List, [], _∷_, foldl}
 use native.Mathlib.Omega.{arith}
 use lib.Dec.{ltb}
@@ -51,7 +51,8 @@ cannot-arise-alike day ps l = go (ltb 8 (day .count)) refl
         ≡ (b || (ltb 65535 (day .event) || someOf (unsound (mostReads (day .count)) (day .event)) ps))
     go true q = refl
     go false q =
-        ap (λ k. ltb 65535 (day .event) || someOf (unsound k (day .event)) ps) (reads-up-to-8 (day .count) l (ltb-false 8 (day .count) q))
+        let few = ltb-false 8 (day .count) q in
+        ap (λ k. ltb 65535 (day .event) || someOf (unsound k (day .event)) ps) (reads-up-to-8 (day .count) l few)
 
 -- ---- a record that can have arisen has room for one turn and one write more
 

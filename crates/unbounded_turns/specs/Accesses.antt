@@ -1,5 +1,6 @@
--- What a turn goes by: which register it reads, and where in its double collect.
+-- What the next turn of a task goes by: which register it reads, if it reads one, and where in its double collect.
 use Prim.Native.Nat.{ℕ, _+_, _*_, _≤_, _<_}
+use mathlib.Core.Bool.{Bool, true, false}
 use mathlib.Core.List.{List}
 use lib.ListN.{getD}
 use Rattle.snapshot.specs.declared.Day.{Day}
@@ -10,6 +11,13 @@ use Rattle.unbounded.specs.declared.Task.the-variants.{Idle, Scan, Update, Read
 use Rattle.unbounded.specs.Processes.{noProcess}
 use Rattle.unbounded.specs.Turns.{position, placeAt}
 use Rattle.unbounded_turns.specs.declared.Access.{Access}
+
+-- an update that is ready to write: its next turn reads no register (document 01, What one turn does, 5)
+abbrev pub isReady : Task → Bool
+isReady Idle = false
+isReady (Scan t) = false
+isReady (Update w t) = false
+isReady (Ready w at t) = true
 
 -- a day of 1 to 8 processes that is not full: what 10, 11 and 5 leave of a day that is asked for a turn
 pub record AllowsTurn (day : Day) : Type 0 where

@@ -1,4 +1,5 @@
--- What the functions on one process record compute, step by step. That together they are a turn of `Turns` is proved (proofs/Steps).
+-- What the functions on one process record compute, step by step. That together they are a turn of `Turns` is proved
+-- (proofs/Steps).
 use Prim.Native.Nat.{ℕ, _+_}
 use mathlib.Core.Bool.{Bool, true, false, cond}
 use mathlib.Core.List.{List}
@@ -29,13 +30,6 @@ taskFor (Requests.Open k) = Idle
 taskFor (Requests.Update d w) = Update w 0
 taskFor (Requests.Scan d) = Scan 0
 taskFor (Requests.Turn d) = Idle
-
--- an update that is ready to write
-abbrev pub isReady : Task → Bool
-isReady Idle = false
-isReady (Scan t) = false
-isReady (Update w t) = false
-isReady (Ready w at t) = true
 
 -- ---- what a turn finds
 

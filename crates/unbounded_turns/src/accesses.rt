@@ -1,14 +1,30 @@
-// Which register a turn reads, and where in its double collect.
+// Which register the next turn of a task reads, if it reads one, and where in its double collect.
 use crate::Access;
 use snapshot::Day;
 use unbounded::Task;
 ghost use mathlib.Core.Path.{_≡_};
 ghost use Prim.Native.Nat.{_*_, _≤_, _<_};
 ghost use Rattle.unbounded.specs.Turns.{position, placeAt};
-ghost use Rattle.unbounded_turns.specs.Accesses.{AllowsTurn, Sound, nextPosition, accessOf};
+ghost use Rattle.unbounded_turns.specs.Accesses.{isReady, AllowsTurn, Sound, nextPosition, accessOf};
+
+// Whether a task is an update that is ready to write: its next turn reads no register.
+pub fn is_ready(k: Task) -> bool
+    ensures { λ b. ⌜ b ≡ isReady k ⌝ }
+{
+    match k {
+        Task::Idle => false,
+        Task::Scan { turns: _ } => false,
+        Task::Update { word: _, turns: _ } => false,
+        Task::Ready {
+            word: _,
+            at: _,
+            turns: _,
+        } => true,
+    }
+}
 
 // Where reading turn t stands in its double collect.
-pub fn position_of(n: usize, t: u32) -> usize
+fn position_of(n: usize, t: u32) -> usize
     requires { ⌜ (0 < n) × (n ≤ 8) ⌝ }
     ensures { λ r. ⌜ r ≡ position n t ⌝ }
 {
@@ -16,7 +32,7 @@ pub fn position_of(n: usize, t: u32) -> usize
 }
 
 // Where the next read of a task stands in its double collect.
-pub fn next_position(n: usize, k: Task) -> usize
+fn next_position(n: usize, k: Task) -> usize
     requires { ⌜ (0 < n) × (n ≤ 8) ⌝ }
     ensures { λ r. ⌜ r ≡ nextPosition n k ⌝ }
     ensures { λ r. ⌜ r < 2 * n ⌝ }

@@ -21,7 +21,7 @@ pub fn no_register() -> Register
 }
 
 // Register r laid where old stood: the words past n of old's view stay.
-pub fn lay(n: usize, r: Register, old: Register) -> Register
+pub(crate) fn lay(n: usize, r: Register, old: Register) -> Register
     requires { ⌜ n ≤ 8 ⌝ }
     ensures { λ x. ⌜ x ≡ laid n r old ⌝ }
 {
@@ -37,7 +37,7 @@ pub fn lay(n: usize, r: Register, old: Register) -> Register
 }
 
 // The first of n processes whose seq differs between the two collects, or n.
-pub fn first_moved(n: usize, a: [Register; 8], b: [Register; 8]) -> usize
+pub(crate) fn first_moved(n: usize, a: [Register; 8], b: [Register; 8]) -> usize
     requires { ⌜ n ≤ 8 ⌝ }
     ensures { λ x. ⌜ x ≡ firstBelow n (differs ascending a b) ⌝ }
 {
@@ -52,7 +52,7 @@ pub fn first_moved(n: usize, a: [Register; 8], b: [Register; 8]) -> usize
 }
 
 // The first of n processes that lends, or n.
-pub fn first_lender(n: usize, a: [Register; 8], b: [Register; 8], ms: [bool; 8]) -> usize
+pub(crate) fn first_lender(n: usize, a: [Register; 8], b: [Register; 8], ms: [bool; 8]) -> usize
     requires { ⌜ n ≤ 8 ⌝ }
     ensures { λ x. ⌜ x ≡ firstBelow n (lends (differs ascending a b) ms) ⌝ }
 {
@@ -69,7 +69,7 @@ pub fn first_lender(n: usize, a: [Register; 8], b: [Register; 8], ms: [bool; 8])
 }
 
 // The marks after the first k processes were looked at: each that moved is marked.
-pub fn mark(k: usize, a: [Register; 8], b: [Register; 8], ms: [bool; 8]) -> [bool; 8]
+pub(crate) fn mark(k: usize, a: [Register; 8], b: [Register; 8], ms: [bool; 8]) -> [bool; 8]
     requires { ⌜ k ≤ 8 ⌝ }
     ensures { λ x. ⌜ x ≡ markFrom (differs ascending a b) k 0 ms ⌝ }
 {
@@ -85,7 +85,7 @@ pub fn mark(k: usize, a: [Register; 8], b: [Register; 8], ms: [bool; 8]) -> [boo
 }
 
 // The words of the first n registers of a collect, the other places 0.
-pub fn words(n: usize, rs: [Register; 8]) -> [u32; 8]
+pub(crate) fn words(n: usize, rs: [Register; 8]) -> [u32; 8]
     requires { ⌜ n ≤ 8 ⌝ }
     ensures { λ x. ⌜ x ≡ over n (pageOf ascending n rs) (replicate 8 0) ⌝ }
 {

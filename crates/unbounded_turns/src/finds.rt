@@ -17,7 +17,7 @@ ghost use Rattle.unbounded_turns.specs.Accesses.{Sound};
 ghost use Rattle.unbounded_turns.specs.Steps.{nothingFound, decisionFind, findOf, pageBy};
 
 // Nothing found; the search for a lender passed k processes.
-pub fn nothing(k: usize) -> Find
+fn nothing(k: usize) -> Find
     ensures { λ f. ⌜ f ≡ nothingFound k ⌝ }
 {
     Find {
@@ -37,7 +37,7 @@ pub fn nothing_found() -> Find
 }
 
 // What the end of a double collect finds: its two collects, the end of the first, and the marks from earlier ones.
-pub fn decide(n: usize, end: u32, a: [Register; 8], b: [Register; 8], moved: [bool; 8]) -> Find
+fn decide(n: usize, end: u32, a: [Register; 8], b: [Register; 8], moved: [bool; 8]) -> Find
     requires { ⌜ n ≤ 8 ⌝ }
     ensures { λ f. ⌜ f ≡ decisionFind n end b (some (verdict n (differs ascending a b) (lends (differs ascending a b) moved))) ⌝ }
 {

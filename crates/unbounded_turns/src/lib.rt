@@ -1,5 +1,5 @@
-// The turns of Figure 3 (crate `unbounded`) on one process record by value: what a turn goes by and finds, and the record, the answer
-// and the page list that it leaves. Nothing here knows the table: a caller lends one record, and one register that is read.
+// The turns of Figure 3 (crate `unbounded`) on one process record by value: what a turn goes by and finds, and the record, the
+// answer and the page list that it leaves. Nothing here knows the table: a caller gives one record and the register that is read.
 pub mod accesses;
 pub mod collects;
 pub mod finds;
@@ -7,8 +7,8 @@ pub mod records;
 pub mod surveys;
 pub mod tasks;
 
-// What the access of a turn goes by: the number of processes, the turn's own event number, and where its read stands in its double
-// collect.
+// What the access of a turn goes by: the number of processes, the turn's own event number, and where its read stands in its
+// double collect.
 pub struct Access {
     pub n: usize,
     pub now: u32,

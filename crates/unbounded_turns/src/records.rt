@@ -1,5 +1,5 @@
-// The record of a process by value: its parts, and the record after a call, a read, a write or an answer. A record is copied once and
-// changed in place; its task is stored by the caller.
+// The record of a process by value: its parts, and the record after a call, a read or an answer, with the task that it had. A
+// record is copied once and changed in place; the caller stores its task.
 use crate::Access;
 use crate::Find;
 use crate::collects;
@@ -10,7 +10,7 @@ use unbounded::Process;
 use unbounded::Register;
 use unbounded::Task;
 ghost use mathlib.Core.Path.{_≡_};
-ghost use Prim.Native.Nat.{_*_, _≤_, _<_};
+ghost use Prim.Native.Nat.{_≤_, _<_};
 ghost use Rattle.unbounded.specs.Processes.{isIdle, zeroProcess, begin};
 ghost use Rattle.unbounded.specs.Turns.{endAfter};
 ghost use Rattle.unbounded_turns.specs.Accesses.{Sound};
@@ -51,11 +51,20 @@ pub fn rests(p: Process) -> bool
     ensures { λ b. ⌜ b ≡ isIdle (p .task) ⌝ }
 {
     let k = p.task;
-    tasks::is_idle(k)
+    match k {
+        Task::Idle => true,
+        Task::Scan { turns: _ } => false,
+        Task::Update { word: _, turns: _ } => false,
+        Task::Ready {
+            word: _,
+            at: _,
+            turns: _,
+        } => false,
+    }
 }
 
 // The record with nothing collected, on a day of n processes.
-pub fn cleared(n: usize, p: Process) -> Process
+fn cleared(n: usize, p: Process) -> Process
     requires { ⌜ n ≤ 8 ⌝ }
     ensures { λ q. ⌜ q ≡ begin n (p .task) p ⌝ }
 {
@@ -92,7 +101,7 @@ pub fn over(a: Access, p: Process) -> Process
 }
 
 // The number of the turn that ended the first collect.
-pub fn end_of(a: Access, end: u32) -> u32
+fn end_of(a: Access, end: u32) -> u32
     requires { ⌜ Sound a ⌝ }
     ensures { λ r. ⌜ r ≡ endAfter (a .n) (a .pos) (a .now) end ⌝ }
 {

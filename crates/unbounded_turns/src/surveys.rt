@@ -32,7 +32,7 @@ pub fn surveyed(s: Survey, p: Process) -> Survey
 }
 
 // Whether a record before this one was bad, or this one cannot have arisen.
-pub fn bad_after(s: Survey, p: Process) -> bool
+fn bad_after(s: Survey, p: Process) -> bool
     ensures { λ b. ⌜ b ≡ (s .bad || unsound (s .most) (s .event) p) ⌝ }
 {
     let k = p.task;
@@ -51,7 +51,7 @@ pub fn bad_after(s: Survey, p: Process) -> bool
 }
 
 // Whether a task has had more turns than it can have.
-pub fn is_overdue(most: u32, k: Task) -> bool
+fn is_overdue(most: u32, k: Task) -> bool
     ensures { λ b. ⌜ b ≡ overdue most k ⌝ }
 {
     match k {

@@ -6,8 +6,8 @@ use unbounded::Task;
 ghost use mathlib.Core.Path.{_≡_};
 ghost use Prim.Native.Nat.{_<_};
 ghost use Rattle.unbounded.specs.declared.Task.the-variants.{Idle};
-ghost use Rattle.unbounded.specs.Processes.{isIdle, turnsOf};
-ghost use Rattle.unbounded_turns.specs.Steps.{taskFor, isReady, keepsBy, endsBy, taskBy, answerBy};
+ghost use Rattle.unbounded.specs.Processes.{turnsOf};
+ghost use Rattle.unbounded_turns.specs.Steps.{taskFor, keepsBy, endsBy, taskBy, answerBy};
 
 // The task that a call sets.
 pub fn task_for(x: Request) -> Task
@@ -28,39 +28,8 @@ pub fn idle() -> Task
     Task::Idle
 }
 
-pub fn is_idle(k: Task) -> bool
-    ensures { λ b. ⌜ b ≡ isIdle k ⌝ }
-{
-    match k {
-        Task::Idle => true,
-        Task::Scan { turns: _ } => false,
-        Task::Update { word: _, turns: _ } => false,
-        Task::Ready {
-            word: _,
-            at: _,
-            turns: _,
-        } => false,
-    }
-}
-
-// Whether a task is an update that is ready to write.
-pub fn is_ready(k: Task) -> bool
-    ensures { λ b. ⌜ b ≡ isReady k ⌝ }
-{
-    match k {
-        Task::Idle => false,
-        Task::Scan { turns: _ } => false,
-        Task::Update { word: _, turns: _ } => false,
-        Task::Ready {
-            word: _,
-            at: _,
-            turns: _,
-        } => true,
-    }
-}
-
 // Whether a task keeps the page that a turn found: an update does.
-pub fn keeps(k: Task, f: Find) -> bool
+pub(crate) fn keeps(k: Task, f: Find) -> bool
     ensures { λ b. ⌜ b ≡ keepsBy f k ⌝ }
 {
     match k {

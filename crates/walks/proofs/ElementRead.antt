@@ -13,7 +13,7 @@ use prog.Wp.{Heap}
 use contract.Lifetimes.{Lfts}
 use contract.Monad.{fact}
 use contract.Running.{GhostRules, Running, givenOf, tables}
-use types.Kit.{!}
+use types.Kit.{ ! }
 use denote.Triple.End.{Fins}
 use denote.Triple.Entry.{Args}
 use denote.Triple.Clauses.{Clauses, atExit}

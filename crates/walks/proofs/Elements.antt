@@ -57,14 +57,16 @@ module _ {M : Type 1} {𝓤 : URA M} {H : Heap 𝓤} {A : Atoms 𝓤} {K : Type 
       let ins₂ = both-true (inside E a) (inside E c) (ins₁ .1) in
       let d : Cell = holds a-usize (i * bytes X) (refl, within) in
       let ds = putAt cs a d in
-      record { go = λ go.
-          now-holds t d (bin t (read-one t 0 E cs refl j (vint w64 i) (ins₁ .0) (ap spellOf at-j)) (lit t small) (record { fits = within })) (ins₂ .0) refl
-          (fits-local 𝓤 H A W a-usize (spotOf 𝓤 H E a .0) (ok .1) (i * bytes X) (refl, within))
-          (now-holds t (thin b (place-of (bytes X) o i))
-          (subst (λ (z : ℕ). Rv K W (frame E (spelt ds) ∷ Γ) E (op2 offset (copy (place s (field 0 ∷ []))) (copy (place a []))) (vptr b z)) (sym (place-is (bytes X) o i))
-          (bin t (load t (from t (fld t (ap (λ (ρ : Ty). fieldOf ρ 0) e) (stop t))) (look-in t 0 (sub t 0 refl (slice-part 𝓤 H A K W E ds s b o n l (tyRef ℓ μ τ) (ins .0) at-s′ e))))
-          (read-one t 0 E ds refl a (vint w64 (i * bytes X)) (ins₂ .0) (ap spellOf (put-same cs a d))) tt))
-          (ins₂ .1) refl (subst (λ (σ : Ty). T (hasTy σ (vptr b (place-of (bytes X) o i)))) (ok .2) tt, tt) go) }
+      record {
+        go = λ go.
+            now-holds t d (bin t (read-one t 0 E cs refl j (vint w64 i) (ins₁ .0) (ap spellOf at-j)) (lit t small) (record { fits = within })) (ins₂ .0) refl
+            (fits-local 𝓤 H A W a-usize (spotOf 𝓤 H E a .0) (ok .1) (i * bytes X) (refl, within))
+            (now-holds t (thin b (place-of (bytes X) o i))
+            (subst (λ (z : ℕ). Rv K W (frame E (spelt ds) ∷ Γ) E (op2 offset (copy (place s (field 0 ∷ []))) (copy (place a []))) (vptr b z)) (sym (place-is (bytes X) o i))
+            (bin t (load t (from t (fld t (ap (λ (ρ : Ty). fieldOf ρ 0) e) (stop t))) (look-in t 0 (sub t 0 refl (slice-part 𝓤 H A K W E ds s b o n l (tyRef ℓ μ τ) (ins .0) at-s′ e))))
+            (read-one t 0 E ds refl a (vint w64 (i * bytes X)) (ins₂ .0) (ap spellOf (put-same cs a d))) tt))
+            (ins₂ .1) refl (subst (λ (σ : Ty). T (hasTy σ (vptr b (place-of (bytes X) o i)))) (ok .2) tt, tt) go);
+      }
 
   -- `x = *e;`, where e points at element i of the caller's `&[X]`
   pub copies-element : K → (X : Datum) {κ : Lft} {p : Share} (b o : ℕ) (γ : GName) (ys : List (Of X)) (i : ℕ) (d : Of X) {j k : ℕ} → i < length ys → cellAt cs j ≡ thin b (place-of (bytes X) o i) →
@@ -74,19 +76,21 @@ module _ {M : Type 1} {𝓤 : URA M} {H : Heap 𝓤} {A : Atoms 𝓤} {K : Type 
   copies-element t X {κ} {p} b o γ ys i d {j} {k} l at-j ok go =
       let w = both-true (inside E j) (inside E k) (ok .0) in
       let Y = type-of X in
-      record { seq =
-          move t (2 ∷ []) $ use1 W (‵ (shared-own Y κ b o γ ys) ⊛ ‵ (shared-own Y κ b o γ ys)) (shr-slice-copy 𝓤 H A W (named 0) κ Y .twice (at-place b o γ ys) (sliceVal (b, o) (length ys) ∷ [])) $ split t $
-          fsplit t $ drop t $ fsplit t $ drop t $
-          -- [the borrow; the reference; the frame; the token]
-          move t (0 ∷ 3 ∷ []) $ looks-slice t tt Y (Is Y) (shows 𝓤 H A Y) (λ z. X .spell z ∷ []) (X .tells) (X .twice 𝓤 H A W) ys b o (λ q′.
-          elem-out t Y (Is Y) (shows 𝓤 H A Y) (λ z. X .spell z ∷ []) (X .tells) q′ ys i d b o l (λ is.
-          -- [the element; what it owns; the others; what shuts; the borrow; the reference; the frame]
-          move t (6 ∷ []) $ stores-local t cs (holds X (getD ys i d) is)
-          (of-opd t (load t (from t (hop t (local-reads 𝓤 H A W E (spelt cs) _ K 0 j (vptr b (place-of (bytes X) o i)) refl (is-inside E j (w .0)) (spelt-at cs j ∙ ap spellOf at-j)) (stop t))) (look-raw t 1 refl)))
-          (w .1) refl (fits-local 𝓤 H A W X (spotOf 𝓤 H E k .0) (ok .1) (getD ys i d) is) $
-          move t (1 ∷ 2 ∷ 3 ∷ []) $ elem-back t Y q′ ys i d (X .spell (getD ys i d) ∷ []) b o l $ move t (0 ∷ 2 ∷ []) $ shuts-slice t tt Y q′ ys b o $
-          -- [the token; the frame; the borrow; the reference]
-          move t (2 ∷ []) $ drop t $ move t (1 ∷ 0 ∷ 2 ∷ []) $ go is .seq)) }
+      record {
+        seq =
+            move t (2 ∷ []) $ use1 W (‵ (shared-own Y κ b o γ ys) ⊛ ‵ (shared-own Y κ b o γ ys)) (shr-slice-copy 𝓤 H A W (named 0) κ Y .twice (at-place b o γ ys) (sliceVal (b, o) (length ys) ∷ [])) $ split t $
+            fsplit t $ drop t $ fsplit t $ drop t $
+            -- [the borrow; the reference; the frame; the token]
+            move t (0 ∷ 3 ∷ []) $ looks-slice t tt Y (Is Y) (shows 𝓤 H A Y) (λ z. X .spell z ∷ []) (X .tells) (X .twice 𝓤 H A W) ys b o (λ q′.
+            elem-out t Y (Is Y) (shows 𝓤 H A Y) (λ z. X .spell z ∷ []) (X .tells) q′ ys i d b o l (λ is.
+            -- [the element; what it owns; the others; what shuts; the borrow; the reference; the frame]
+            move t (6 ∷ []) $ stores-local t cs (holds X (getD ys i d) is)
+            (of-opd t (load t (from t (hop t (local-reads 𝓤 H A W E (spelt cs) _ K 0 j (vptr b (place-of (bytes X) o i)) refl (is-inside E j (w .0)) (spelt-at cs j ∙ ap spellOf at-j)) (stop t))) (look-raw t 1 refl)))
+            (w .1) refl (fits-local 𝓤 H A W X (spotOf 𝓤 H E k .0) (ok .1) (getD ys i d) is) $
+            move t (1 ∷ 2 ∷ 3 ∷ []) $ elem-back t Y q′ ys i d (X .spell (getD ys i d) ∷ []) b o l $ move t (0 ∷ 2 ∷ []) $ shuts-slice t tt Y q′ ys b o $
+            -- [the token; the frame; the borrow; the reference]
+            move t (2 ∷ []) $ drop t $ move t (1 ∷ 0 ∷ 2 ∷ []) $ go is .seq));
+      }
 
   -- `&mut *e`
   pub lends-element : K → (X : Datum) {j k b o : ℕ} → cellAt cs j ≡ thin b o → T (inside E j && inside E k) × T (hasTy (spotOf 𝓤 H E k .0) (vptr b o)) →
@@ -103,13 +107,17 @@ module _ {M : Type 1} {𝓤 : URA M} {H : Heap 𝓤} {A : Atoms 𝓤} {K : Type 
   stores-element t X b o ys i y {j} {k} {is} l at-j at-k ok =
       let w = both-true (inside E j) (inside E k) ok in
       let Y = type-of X in
-      record { go = λ s. record { seq =
-          move t (1 ∷ []) $ elem-out t Y (Is Y) (shows 𝓤 H A Y) (λ z. X .spell z ∷ []) (X .tells) fullShare ys i y b o l (λ _. move t (1 ∷ []) $ drop t $
-          -- [the element; the others; the frame]
-          move t (2 ∷ []) $ assigns t (of-opd t (read-one t 0 E cs refl k (X .spell y) (w .1) (ap spellOf at-k)))
-          (from t (hop t (local-reads 𝓤 H A W E (spelt cs) _ K 0 j (vptr b (place-of (bytes X) o i)) refl (is-inside E j (w .0)) (spelt-at cs j ∙ ap spellOf at-j)) (stop t)))
-          (store-raw t 1 refl (X .laws 𝓤 H A W .typed y (X .spell y ∷ []) is .0)) $
-          owned t Y (Is Y) (X .makes 𝓤 H A W) y (X .spell y ∷ []) is $ move t (2 ∷ 0 ∷ 3 ∷ []) $ elem-put t Y fullShare ys i y (X .spell y ∷ []) b o l $ move t (1 ∷ []) $ s .seq) } }
+      record {
+        go = λ s. record {
+          seq =
+              move t (1 ∷ []) $ elem-out t Y (Is Y) (shows 𝓤 H A Y) (λ z. X .spell z ∷ []) (X .tells) fullShare ys i y b o l (λ _. move t (1 ∷ []) $ drop t $
+              -- [the element; the others; the frame]
+              move t (2 ∷ []) $ assigns t (of-opd t (read-one t 0 E cs refl k (X .spell y) (w .1) (ap spellOf at-k)))
+              (from t (hop t (local-reads 𝓤 H A W E (spelt cs) _ K 0 j (vptr b (place-of (bytes X) o i)) refl (is-inside E j (w .0)) (spelt-at cs j ∙ ap spellOf at-j)) (stop t)))
+              (store-raw t 1 refl (X .laws 𝓤 H A W .typed y (X .spell y ∷ []) is .0)) $
+              owned t Y (Is Y) (X .makes 𝓤 H A W) y (X .spell y ∷ []) is $ move t (2 ∷ 0 ∷ 3 ∷ []) $ elem-put t Y fullShare ys i y (X .spell y ∷ []) b o l $ move t (1 ∷ []) $ s .seq);
+        };
+      }
 
 -- ---- element i of an open slice, lent to a callee, which leaves y in it
 
@@ -122,7 +130,11 @@ module _ {M : Type 1} {𝓤 : URA M} {H : Heap 𝓤} {A : Atoms 𝓤} {K : Type 
       (fact 𝓤 ((r ≡ s) × (lastsOfRefs (lifetime α) (one-own X) (xs α δ) (picked cs os) (links α δ) ws .0 ≡ y)))) →
       ((is : Fine D s) → Here K W E (putAt cs k (holds D s is)) (‵ (row (type-of X) fullShare (set ys i y) b o) ∷ Γ) (runs C Λ E rest q)) →
       Here K W E cs (‵ (row (type-of X) fullShare ys b o) ∷ Γ) (runs C Λ E (seq (call f os (place k [])) rest) q)
-  calls-element t X b o ys i d y l g s ok links asks says go = record { seq =
-      move t (1 ∷ []) $ use1 W (‵ (partAt (type-of X) fullShare (getD ys i d) b (place-of (bytes X) o i)) ⊛ ‵ (others (shares (type-of X)) fullShare ys i b o)) (takes (shares (type-of X)) fullShare 𝓤 H A W ys i d b o l) $ split t $
-      move t (2 ∷ 0 ∷ []) $ calls-own t X b (place-of (bytes X) o i) (getD ys i d) y g s ok links asks says (λ is. record { seq =
-      move t (1 ∷ 2 ∷ []) $ use2 W (‵ (row (type-of X) fullShare (set ys i y) b o)) (puts (shares (type-of X)) fullShare 𝓤 H A W ys i y b o l) $ move t (1 ∷ []) $ go is .seq }) .seq }
+  calls-element t X b o ys i d y l g s ok links asks says go = record {
+    seq =
+        move t (1 ∷ []) $ use1 W (‵ (partAt (type-of X) fullShare (getD ys i d) b (place-of (bytes X) o i)) ⊛ ‵ (others (shares (type-of X)) fullShare ys i b o)) (takes (shares (type-of X)) fullShare 𝓤 H A W ys i d b o l) $ split t $
+        move t (2 ∷ 0 ∷ []) $ calls-own t X b (place-of (bytes X) o i) (getD ys i d) y g s ok links asks says (λ is. record {
+          seq =
+              move t (1 ∷ 2 ∷ []) $ use2 W (‵ (row (type-of X) fullShare (set ys i y) b o)) (puts (shares (type-of X)) fullShare 𝓤 H A W ys i y b o l) $ move t (1 ∷ []) $ go is .seq;
+        }) .seq;
+  }

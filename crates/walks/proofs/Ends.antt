@@ -70,16 +70,20 @@ module _ {M : Type 1} {𝓤 : URA M} {H : Heap 𝓤} {A : Atoms 𝓤} {K : Type 
   pub begins-shared : K → (X : Datum) {κ : Lft} {p : Share} (x : RefT (List (Of X))) (φ : Type 0) → ent 𝓤 req (fact 𝓤 φ) →
       (φ → Here K W E cs (‵ (flft κ p) ∷ ‵ (shared-own (type-of X) κ (x .ptr .0) (x .ptr .1) (x .name) (x .now)) ∷ []) (runs C Λ E b q)) →
       Here K W E cs (‵ (ShrSlice (named 0) κ (type-of X) .own x (sliceVal (x .ptr) (length (x .now)) ∷ [])) ∷ raw (toks 𝓤 A 1 (κ, tt) (p, tt)) ∷ raw req ∷ []) (runs C Λ E b q)
-  begins-shared t X {κ} {p} x φ asked go = record { seq =
-      move t (3 ∷ []) $ use1 W (raw (fact 𝓤 φ)) asked $ heard t φ (λ h. move t (2 ∷ []) $ token-out t κ p $ move t (1 ∷ 0 ∷ 2 ∷ []) $ go h .seq) }
+  begins-shared t X {κ} {p} x φ asked go = record {
+    seq =
+        move t (3 ∷ []) $ use1 W (raw (fact 𝓤 φ)) asked $ heard t φ (λ h. move t (2 ∷ []) $ token-out t κ p $ move t (1 ∷ 0 ∷ 2 ∷ []) $ go h .seq);
+  }
 
   -- with one `&mut [X]`
   pub begins-lent : K → (X : Datum) {κ : Lft} {p : Share} (x : RefT (List (Of X))) (φ : Type 0) → ent 𝓤 req (fact 𝓤 φ) →
       (φ → Here K W E cs (‵ (row (type-of X) fullShare (x .now) (x .ptr .0) (x .ptr .1)) ∷ closer X κ p (x .ptr .0) (x .ptr .1) (x .name) (x .now) ∷ []) (runs C Λ E b q)) →
       Here K W E cs (‵ (MutSlice (named 0) κ (type-of X) .own x (sliceVal (x .ptr) (length (x .now)) ∷ [])) ∷ raw (toks 𝓤 A 1 (κ, tt) (p, tt)) ∷ raw req ∷ []) (runs C Λ E b q)
-  begins-lent t X {κ} {p} x φ asked go = record { seq =
-      move t (3 ∷ []) $ use1 W (raw (fact 𝓤 φ)) asked $ heard t φ (λ h. move t (2 ∷ []) $ token-out t κ p $ move t (2 ∷ 0 ∷ []) $
-      slice-opens t tt X 0 (x .ptr .0) (x .ptr .1) (x .name) (x .now) $ move t (2 ∷ []) $ go h .seq) }
+  begins-lent t X {κ} {p} x φ asked go = record {
+    seq =
+        move t (3 ∷ []) $ use1 W (raw (fact 𝓤 φ)) asked $ heard t φ (λ h. move t (2 ∷ []) $ token-out t κ p $ move t (2 ∷ 0 ∷ []) $
+        slice-opens t tt X 0 (x .ptr .0) (x .ptr .1) (x .name) (x .now) $ move t (2 ∷ []) $ go h .seq);
+  }
 
   -- with two, of which the second stands first
   pub begins-two : K → (X Y : Datum) {κ κ′ : Lft} {p p′ : Share} (x : RefT (List (Of X))) (y : RefT (List (Of Y))) (φ : Type 0) → ent 𝓤 req (fact 𝓤 φ) →
@@ -87,13 +91,15 @@ module _ {M : Type 1} {𝓤 : URA M} {H : Heap 𝓤} {A : Atoms 𝓤} {K : Type 
       ∷ closer X κ p (x .ptr .0) (x .ptr .1) (x .name) (x .now) ∷ closer Y κ′ p′ (y .ptr .0) (y .ptr .1) (y .name) (y .now) ∷ []) (runs C Λ E b q)) →
       Here K W E cs (‵ (MutSlice (named 1) κ′ (type-of Y) .own y (sliceVal (y .ptr) (length (y .now)) ∷ [])) ∷ ‵ (MutSlice (named 0) κ (type-of X) .own x (sliceVal (x .ptr) (length (x .now)) ∷ []))
       ∷ raw (toks 𝓤 A 2 (κ, (κ′, tt)) (p, (p′, tt))) ∷ raw req ∷ []) (runs C Λ E b q)
-  begins-two t X Y {κ} {κ′} {p} {p′} x y φ asked go = record { seq =
-      move t (4 ∷ []) $ use1 W (raw (fact 𝓤 φ)) asked $ heard t φ (λ h. move t (3 ∷ []) $ tokens-out t κ κ′ p p′ $
-      -- [the first token; the second; the frame; the second slice; the first]
-      move t (3 ∷ 1 ∷ []) $ slice-opens t tt Y 1 (y .ptr .0) (y .ptr .1) (y .name) (y .now) $
-      move t (4 ∷ 2 ∷ []) $ slice-opens t tt X 0 (x .ptr .0) (x .ptr .1) (x .name) (x .now) $
-      -- [the first row; its closer; the second row; its closer; the frame]
-      move t (4 ∷ 0 ∷ 2 ∷ 1 ∷ 3 ∷ []) $ go h .seq) }
+  begins-two t X Y {κ} {κ′} {p} {p′} x y φ asked go = record {
+    seq =
+        move t (4 ∷ []) $ use1 W (raw (fact 𝓤 φ)) asked $ heard t φ (λ h. move t (3 ∷ []) $ tokens-out t κ κ′ p p′ $
+        -- [the first token; the second; the frame; the second slice; the first]
+        move t (3 ∷ 1 ∷ []) $ slice-opens t tt Y 1 (y .ptr .0) (y .ptr .1) (y .name) (y .now) $
+        move t (4 ∷ 2 ∷ []) $ slice-opens t tt X 0 (x .ptr .0) (x .ptr .1) (x .name) (x .now) $
+        -- [the first row; its closer; the second row; its closer; the frame]
+        move t (4 ∷ 0 ∷ 2 ∷ 1 ∷ 3 ∷ []) $ go h .seq);
+  }
 
 -- ---- the end: what was lent is closed, and what the contract ensures is shown of the result and the last values
 
@@ -126,20 +132,24 @@ module _ {M : Type 1} {𝓤 : URA M} {H : Heap 𝓤} {A : Atoms 𝓤} {K : Type 
   pub ends-shared : K → (ps : List (Param 1)) (R : Datum) (c : Clauses 𝓤 (ended ps R)) {κ : Lft} {p : Share} (a : Args (ended ps R .signature) (κ, tt)) (g : c (κ, tt) a .ghost) (r : Of R) (is : Fine R r) {other : Item 𝓤}
       (ws : Fins (κ, tt) (slots ps) (kept ps) a) → Returns 𝓤 H A ps R c (κ, tt) (p, tt) a g E cs q r is ws (raw (toks 𝓤 A 1 (κ, tt) (p, tt)) ∷ []) → fitsOf (κ, tt) (slots ps) (kept ps) (stays ps) a ws →
       ent 𝓤 (emp 𝓤) (c (κ, tt) a .ensures g r (atExit (ended ps R) (κ, tt) a ws)) → Here K W E cs (‵ (flft κ p) ∷ other ∷ []) (runs C Λ E return q)
-  ends-shared t ps R c {κ} {p} a g r is ws ok fit says = record { seq =
-      move t (2 ∷ []) $ drop t $ move t (1 ∷ []) $ token-in t $ move t (1 ∷ []) $
-      finishes ps R c (κ, tt) (p, tt) a g t cs (ok .0) (ok .1) (ok .2)
-      (subst (λ (Δ : List (Item 𝓤)). Seq K W Δ (prop (Ended-at ps R 𝓤 H A c (κ, tt) (p, tt) a g (R .spell r)))) (ok .3) (answers ps R c (κ, tt) (p, tt) a g t r is ws fit says)) }
+  ends-shared t ps R c {κ} {p} a g r is ws ok fit says = record {
+    seq =
+        move t (2 ∷ []) $ drop t $ move t (1 ∷ []) $ token-in t $ move t (1 ∷ []) $
+        finishes ps R c (κ, tt) (p, tt) a g t cs (ok .0) (ok .1) (ok .2)
+        (subst (λ (Δ : List (Item 𝓤)). Seq K W Δ (prop (Ended-at ps R 𝓤 H A c (κ, tt) (p, tt) a g (R .spell r)))) (ok .3) (answers ps R c (κ, tt) (p, tt) a g t r is ws fit says));
+  }
 
   pub ends-lent : K → (ps : List (Param 1)) (R : Datum) (c : Clauses 𝓤 (ended ps R)) {κ : Lft} {p : Share} (a : Args (ended ps R .signature) (κ, tt)) (g : c (κ, tt) a .ghost) (r : Of R) (is : Fine R r)
       (X : Datum) (x : RefT (List (Of X))) (us : List (Of X)) → Room (type-of X) (length (x .now)) → length us ≡ length (x .now) → (ws : Fins (κ, tt) (slots ps) (kept ps) a) →
       Returns 𝓤 H A ps R c (κ, tt) (p, tt) a g E cs q r is ws (‵ (MutSlice (named 0) κ (type-of X) .own (at-place (x .ptr .0) (x .ptr .1) (x .name) us) (sliceVal (x .ptr) (length (x .now)) ∷ [])) ∷ raw (toks 𝓤 A 1 (κ, tt) (p, tt)) ∷ []) →
       fitsOf (κ, tt) (slots ps) (kept ps) (stays ps) a ws → ent 𝓤 (emp 𝓤) (c (κ, tt) a .ensures g r (atExit (ended ps R) (κ, tt) a ws)) →
       Here K W E cs (‵ (row (type-of X) fullShare us (x .ptr .0) (x .ptr .1)) ∷ closer X κ p (x .ptr .0) (x .ptr .1) (x .name) (x .now) ∷ []) (runs C Λ E return q)
-  ends-lent t ps R c {κ} {p} a g r is X x us fits e ws ok fit says = record { seq =
-      move t (1 ∷ 2 ∷ []) $ slice-closes t tt X 0 (x .ptr .0) (x .ptr .1) (x .name) (x .now) us fits e $ move t (1 ∷ []) $ token-in t $ move t (2 ∷ 1 ∷ 0 ∷ []) $
-      finishes ps R c (κ, tt) (p, tt) a g t cs (ok .0) (ok .1) (ok .2)
-      (subst (λ (Δ : List (Item 𝓤)). Seq K W Δ (prop (Ended-at ps R 𝓤 H A c (κ, tt) (p, tt) a g (R .spell r)))) (ok .3) (answers ps R c (κ, tt) (p, tt) a g t r is ws fit says)) }
+  ends-lent t ps R c {κ} {p} a g r is X x us fits e ws ok fit says = record {
+    seq =
+        move t (1 ∷ 2 ∷ []) $ slice-closes t tt X 0 (x .ptr .0) (x .ptr .1) (x .name) (x .now) us fits e $ move t (1 ∷ []) $ token-in t $ move t (2 ∷ 1 ∷ 0 ∷ []) $
+        finishes ps R c (κ, tt) (p, tt) a g t cs (ok .0) (ok .1) (ok .2)
+        (subst (λ (Δ : List (Item 𝓤)). Seq K W Δ (prop (Ended-at ps R 𝓤 H A c (κ, tt) (p, tt) a g (R .spell r)))) (ok .3) (answers ps R c (κ, tt) (p, tt) a g t r is ws fit says));
+  }
 
   pub ends-two : K → (ps : List (Param 2)) (R : Datum) (c : Clauses 𝓤 (ended ps R)) {κ κ′ : Lft} {p p′ : Share} (a : Args (ended ps R .signature) (κ, (κ′, tt))) (g : c (κ, (κ′, tt)) a .ghost) (r : Of R) (is : Fine R r)
       (X : Datum) (x : RefT (List (Of X))) (us : List (Of X)) → Room (type-of X) (length (x .now)) → length us ≡ length (x .now) →
@@ -149,11 +159,13 @@ module _ {M : Type 1} {𝓤 : URA M} {H : Heap 𝓤} {A : Atoms 𝓤} {K : Type 
       fitsOf (κ, (κ′, tt)) (slots ps) (kept ps) (stays ps) a ws → ent 𝓤 (emp 𝓤) (c (κ, (κ′, tt)) a .ensures g r (atExit (ended ps R) (κ, (κ′, tt)) a ws)) →
       Here K W E cs (‵ (row (type-of X) fullShare us (x .ptr .0) (x .ptr .1)) ∷ ‵ (row (type-of Y) fullShare us′ (y .ptr .0) (y .ptr .1))
       ∷ closer X κ p (x .ptr .0) (x .ptr .1) (x .name) (x .now) ∷ closer Y κ′ p′ (y .ptr .0) (y .ptr .1) (y .name) (y .now) ∷ []) (runs C Λ E return q)
-  ends-two t ps R c {κ} {κ′} {p} {p′} a g r is X x us fits e Y y us′ fits′ e′ ws ok fit says = record { seq =
-      move t (1 ∷ 3 ∷ []) $ slice-closes t tt X 0 (x .ptr .0) (x .ptr .1) (x .name) (x .now) us fits e $
-      -- [the first slice; its token; the frame; the second row; its closer]
-      move t (3 ∷ 4 ∷ []) $ slice-closes t tt Y 1 (y .ptr .0) (y .ptr .1) (y .name) (y .now) us′ fits′ e′ $
-      -- [the second slice; its token; the first slice; its token; the frame]
-      move t (3 ∷ 1 ∷ []) $ tokens-in t $ move t (3 ∷ 1 ∷ 2 ∷ 0 ∷ []) $
-      finishes ps R c (κ, (κ′, tt)) (p, (p′, tt)) a g t cs (ok .0) (ok .1) (ok .2)
-      (subst (λ (Δ : List (Item 𝓤)). Seq K W Δ (prop (Ended-at ps R 𝓤 H A c (κ, (κ′, tt)) (p, (p′, tt)) a g (R .spell r)))) (ok .3) (answers ps R c (κ, (κ′, tt)) (p, (p′, tt)) a g t r is ws fit says)) }
+  ends-two t ps R c {κ} {κ′} {p} {p′} a g r is X x us fits e Y y us′ fits′ e′ ws ok fit says = record {
+    seq =
+        move t (1 ∷ 3 ∷ []) $ slice-closes t tt X 0 (x .ptr .0) (x .ptr .1) (x .name) (x .now) us fits e $
+        -- [the first slice; its token; the frame; the second row; its closer]
+        move t (3 ∷ 4 ∷ []) $ slice-closes t tt Y 1 (y .ptr .0) (y .ptr .1) (y .name) (y .now) us′ fits′ e′ $
+        -- [the second slice; its token; the first slice; its token; the frame]
+        move t (3 ∷ 1 ∷ []) $ tokens-in t $ move t (3 ∷ 1 ∷ 2 ∷ 0 ∷ []) $
+        finishes ps R c (κ, (κ′, tt)) (p, (p′, tt)) a g t cs (ok .0) (ok .1) (ok .2)
+        (subst (λ (Δ : List (Item 𝓤)). Seq K W Δ (prop (Ended-at ps R 𝓤 H A c (κ, (κ′, tt)) (p, (p′, tt)) a g (R .spell r)))) (ok .3) (answers ps R c (κ, (κ′, tt)) (p, (p′, tt)) a g t r is ws fit says));
+  }

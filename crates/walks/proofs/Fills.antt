@@ -40,7 +40,6 @@ use Rattle.walks.proofs.Rules.{fits-local, gets}
 use Rattle.walks.proofs.Locals.{counts, unit-stored}
 use Rattle.walks.proofs.Ends.{closer, begins-lent, ends-lent}
 use Rattle.walks.proofs.Elements.{bytes, offset-fits, finds-element, stores-element}
-
 use Rattle.walks.proofs.Loops.{forgets, starts, compares, tests, counts-on, goes-on, nearer-ends}
 
 -- `let mut i = 0; while i < s.len() { s[i] = g(); i += 1; }`
@@ -156,5 +155,7 @@ module _ (X : Datum) where
     pub fills : Walk fill-params a-unit 𝓤 H 𝓜 𝓖 𝓡 γ c fill-locals (fill-body f)
     unfolding tablesOf
     fills κs ts a h are bs =
-        begins-lent ! X (a .0) (Unit {0}) (factI 𝓤 (Unit {0}) (c κs a .requires h) tt) (λ _. starts ! (tt, refl) ▹ record { seq =
-        first ! $ blocks ! $ loops ! (𝓣 κs ts a h are bs) (Nearer κs ts a h are bs) (nearer-ends (length (a .0 .now)) (λ p. p .i)) (At κs ts a h are bs) (λ p. turn κs ts a h are bs p .seq) (record { i = 0; upto = zero-le }) })
+        begins-lent ! X (a .0) (Unit {0}) (factI 𝓤 (Unit {0}) (c κs a .requires h) tt) (λ _. starts ! (tt, refl) ▹ record {
+          seq =
+              first ! $ blocks ! $ loops ! (𝓣 κs ts a h are bs) (Nearer κs ts a h are bs) (nearer-ends (length (a .0 .now)) (λ p. p .i)) (At κs ts a h are bs) (λ p. turn κs ts a h are bs p .seq) (record { i = 0; upto = zero-le });
+        })

@@ -40,7 +40,6 @@ use Rattle.walks.proofs.Rules.{fits-local, gets}
 use Rattle.walks.proofs.Locals.{now-holds, counts, copies}
 use Rattle.walks.proofs.Ends.{begins-shared, ends-shared}
 use Rattle.walks.proofs.Elements.{bytes, offset-fits, finds-element, copies-element}
-
 use Rattle.walks.proofs.Loops.{forgets, starts, compares, tests, counts-on, goes-on, nearer-ends}
 
 -- `let mut acc = start; let mut i = 0; while i < s.len() { acc = g(acc, s[i]); i += 1; } acc`
@@ -144,6 +143,8 @@ module _ (X D : Datum) where
     pub folds : Walk fold-params D 𝓤 H 𝓜 𝓖 𝓡 γ c fold-locals (fold-body f)
     unfolding tablesOf
     folds κs ts a h are bs =
-        begins-shared ! X (a .0) (Unit {0}) (factI 𝓤 (Unit {0}) (c κs a .requires h) tt) (λ _. copies ! refl (tt, refl) ▹ starts ! (tt, refl) ▹ record { seq =
-        first ! $ blocks ! $ loops ! (𝓣 κs ts a h are bs) (Nearer κs ts a h are bs) (nearer-ends (length (a .0 .now)) (λ p. p .i)) (λ p. frame (E κs ts a h are bs) (spelt (cells κs ts a h are bs p)) ∷ Γ κs ts a h are bs) (λ p. turn κs ts a h are bs p .seq)
-        (record { i = 0; v = a .1 .0; upto = zero-le; fine = are .1 .0; so = refl }) })
+        begins-shared ! X (a .0) (Unit {0}) (factI 𝓤 (Unit {0}) (c κs a .requires h) tt) (λ _. copies ! refl (tt, refl) ▹ starts ! (tt, refl) ▹ record {
+          seq =
+              first ! $ blocks ! $ loops ! (𝓣 κs ts a h are bs) (Nearer κs ts a h are bs) (nearer-ends (length (a .0 .now)) (λ p. p .i)) (λ p. frame (E κs ts a h are bs) (spelt (cells κs ts a h are bs p)) ∷ Γ κs ts a h are bs) (λ p. turn κs ts a h are bs p .seq)
+              (record { i = 0; v = a .1 .0; upto = zero-le; fine = are .1 .0; so = refl });
+        })

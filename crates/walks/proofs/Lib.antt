@@ -15,5 +15,5 @@ pub mod Loops
 pub mod Folds
 pub mod Fills
 pub mod ElementRead
+pub mod ByHand
 pub mod Walking
-

@@ -68,9 +68,11 @@ module _ {M : Type 1} {𝓤 : URA M} {H : Heap 𝓤} {A : Atoms 𝓤} {K : Type 
       Way K W E (putAt cs k (holds a-usize n (refl, l))) Γ (runs C Λ E rest q) cs Γ (runs C Λ E (seq (assign (place k []) (rvOpd (copy (place s (field 1 ∷ []))))) rest) q)
   counts t {s} {k} {b} {o} {n} {l} {ℓ} {μ} {τ} c e ok =
       let w = both-true (inside E s) (inside E k) (ok .0) in
-      record { go = now-holds t (holds a-usize n (refl, l))
-          (of-opd t (load t (from t (fld t (ap (λ (ρ : Ty). fieldOf ρ 1) e) (stop t))) (look-in t 0 (sub t 1 refl (slice-part 𝓤 H A K W E cs s b o n l (tyRef ℓ μ τ) (w .0) c e)))))
-          (w .1) refl (fits-local 𝓤 H A W a-usize (spotOf 𝓤 H E k .0) (ok .1) n (refl, l)) }
+      record {
+        go = now-holds t (holds a-usize n (refl, l))
+            (of-opd t (load t (from t (fld t (ap (λ (ρ : Ty). fieldOf ρ 1) e) (stop t))) (look-in t 0 (sub t 1 refl (slice-part 𝓤 H A K W E cs s b o n l (tyRef ℓ μ τ) (w .0) c e)))))
+            (w .1) refl (fits-local 𝓤 H A W a-usize (spotOf 𝓤 H E k .0) (ok .1) n (refl, l));
+      }
 
 module _ {M : Type 1} {𝓤 : URA M} {H : Heap 𝓤} {A : Atoms 𝓤} {K : Type 0} {W : Given 𝓤 H A} {C : Calls 𝓤 H} {Λ : Loops 𝓤 H} {E : List (Ty × ℕ)} {cs : List Cell} {Γ : List (Item 𝓤)} {q : Post 𝓤 H} {rest : Body} where
   -- `&mut *s` or `&*s`: the pointer goes to local a, the slice to local k
@@ -85,18 +87,22 @@ module _ {M : Type 1} {𝓤 : URA M} {H : Heap 𝓤} {A : Atoms 𝓤} {K : Type 
       let part = slice-part 𝓤 H A K W E cs s b o n l (tyRef ℓ μ τ) (ins .0) c e in
       let ds = putAt cs a (thin b o) in
       let part′ = slice-part 𝓤 H A K W E ds s b o n l (tyRef ℓ μ τ) (ins .0) c′ e in
-      record { go = λ go.
-          now-holds t (thin b o) (addr t (from t (fld t (ap (λ (ρ : Ty). fieldOf ρ 0) e) (hop t (look-in t 0 (sub t 0 refl part)) (stop t))))) (ins′ .0) refl (tys .0, tt)
-          (now-holds t (fat b o n l)
-          (agg t (and-then t (read-one t 0 E ds refl a (vptr b o) (ins′ .0) (ap spellOf (put-same cs a (thin b o)))) (and-then t (load t (from t (fld t (ap (λ (ρ : Ty). fieldOf ρ 1) e) (stop t))) (look-in t 0 (sub t 1 refl part′))) (no-more t))))
-          (ins′ .1) refl (tys .1, (tt, (record { fits = l }, tt))) go) }
+      record {
+        go = λ go.
+            now-holds t (thin b o) (addr t (from t (fld t (ap (λ (ρ : Ty). fieldOf ρ 0) e) (hop t (look-in t 0 (sub t 0 refl part)) (stop t))))) (ins′ .0) refl (tys .0, tt)
+            (now-holds t (fat b o n l)
+            (agg t (and-then t (read-one t 0 E ds refl a (vptr b o) (ins′ .0) (ap spellOf (put-same cs a (thin b o)))) (and-then t (load t (from t (fld t (ap (λ (ρ : Ty). fieldOf ρ 1) e) (stop t))) (look-in t 0 (sub t 1 refl part′))) (no-more t))))
+            (ins′ .1) refl (tys .1, (tt, (record { fits = l }, tt))) go);
+      }
 
   -- `if c { .. return .. }`: the first arm leaves the function, the second goes on with the rest
   pub if-leaves : K → {j : ℕ} {y : Bool} {is : Fine a-bool y} {arm : Body} → cellAt cs j ≡ holds a-bool y is → T (inside E j) →
       (T y → Here K W E cs Γ (runs C Λ E arm (anyQ (afterSeq 𝓤 H (Wp 𝓤 H C Λ E rest (post 𝓤 H q)) (post 𝓤 H q))))) → (T (not y) → Here K W E cs Γ (runs C Λ E rest q)) →
       Here K W E cs Γ (runs C Λ E (seq (cond (copy (place j [])) arm skip) rest) q)
-  if-leaves t {j} {y} c h held failed = record { seq =
-      first t $ branches t (read-one t 0 E cs refl j (vbool y) h (ap spellOf c)) (λ z. held z .seq) (λ z. skips t $ record { prf = failed z .seq .prf }) }
+  if-leaves t {j} {y} c h held failed = record {
+    seq =
+        first t $ branches t (read-one t 0 E cs refl j (vbool y) h (ap spellOf c)) (λ z. held z .seq) (λ z. skips t $ record { prf = failed z .seq .prf });
+  }
 
 module _ {M : Type 1} {𝓤 : URA M} {H : Heap 𝓤} {A : Atoms 𝓤} {K : Type 0} {W : Given 𝓤 H A} {E : List (Ty × ℕ)} {cs : List Cell} {Γ : List (Item 𝓤)} {G : Goal 𝓤 H} where
   -- what is owned second comes first

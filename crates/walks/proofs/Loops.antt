@@ -68,10 +68,16 @@ module _ {M : Type 1} (𝓤 : URA M) (H : Heap 𝓤) (A : Atoms 𝓤) (W : Given
 module _ {M : Type 1} {𝓤 : URA M} {H : Heap 𝓤} {A : Atoms 𝓤} {K : Type 0} {W : Given 𝓤 H A} {E : List (Ty × ℕ)} {cs : List Cell} {Γ : List (Item 𝓤)} where
   -- what the locals from the k-th on hold is forgotten
   pub forgets : K → (k : ℕ) {G : Goal 𝓤 H} → Way K W E (firsts k cs) Γ G cs Γ G
-  forgets t k {G} = record { go = λ s. record { seq = record { prf =
-      via 𝓤 (sep 𝓤 (framed 𝓤 H A E (spelt cs)) (⋆ 𝓤 H A Γ)) (pop 𝓤 H A (frame E (spelt cs)) Γ)
-      (via 𝓤 (sep 𝓤 (framed 𝓤 H A E (spelt (firsts k cs))) (⋆ 𝓤 H A Γ)) (monoL 𝓤 (⋆ 𝓤 H A Γ) (first-kept 𝓤 H A W k E cs))
-      (via 𝓤 (⋆ 𝓤 H A (frame E (spelt (firsts k cs)) ∷ Γ)) (push 𝓤 H A (frame E (spelt (firsts k cs))) Γ) (s .seq .prf))) } } }
+  forgets t k {G} = record {
+    go = λ s. record {
+      seq = record {
+        prf =
+            via 𝓤 (sep 𝓤 (framed 𝓤 H A E (spelt cs)) (⋆ 𝓤 H A Γ)) (pop 𝓤 H A (frame E (spelt cs)) Γ)
+            (via 𝓤 (sep 𝓤 (framed 𝓤 H A E (spelt (firsts k cs))) (⋆ 𝓤 H A Γ)) (monoL 𝓤 (⋆ 𝓤 H A Γ) (first-kept 𝓤 H A W k E cs))
+            (via 𝓤 (⋆ 𝓤 H A (frame E (spelt (firsts k cs)) ∷ Γ)) (push 𝓤 H A (frame E (spelt (firsts k cs))) Γ) (s .seq .prf)));
+      };
+    };
+  }
 
 module _ {M : Type 1} {𝓤 : URA M} {H : Heap 𝓤} {A : Atoms 𝓤} {K : Type 0} {W : Given 𝓤 H A} {C : Calls 𝓤 H} {Λ : Loops 𝓤 H} {E : List (Ty × ℕ)} {cs : List Cell} {Γ : List (Item 𝓤)} {q : Post 𝓤 H} {rest : Body} where
   -- `let mut i = 0;`
@@ -86,14 +92,18 @@ module _ {M : Type 1} {𝓤 : URA M} {H : Heap 𝓤} {A : Atoms 𝓤} {K : Type 
   compares t {j} {k} {m} {x} {y} c d ok =
       let w = both-true (inside E j) (inside E k && inside E m) (ok .0) in
       let w′ = both-true (inside E k) (inside E m) (w .1) in
-      record { go = now-holds t (holds a-bool (ltb x y) refl) (bin t (read-one t 0 E cs refl j (vint w64 x) (w .0) (ap spellOf c)) (read-one t 0 E cs refl k (vint w64 y) (w′ .0) (ap spellOf d)) tt)
-          (w′ .1) refl (fits-local 𝓤 H A W a-bool (spotOf 𝓤 H E m .0) (ok .1) (ltb x y) refl) }
+      record {
+        go = now-holds t (holds a-bool (ltb x y) refl) (bin t (read-one t 0 E cs refl j (vint w64 x) (w .0) (ap spellOf c)) (read-one t 0 E cs refl k (vint w64 y) (w′ .0) (ap spellOf d)) tt)
+            (w′ .1) refl (fits-local 𝓤 H A W a-bool (spotOf 𝓤 H E m .0) (ok .1) (ltb x y) refl);
+      }
 
   -- the test of a `while`: the turn goes on, or the loop is left
   pub tests : K → {j n : ℕ} {y : Bool} {is : Fine a-bool y} → cellAt cs j ≡ holds a-bool y is → T (inside E j) →
       (T y → Here K W E cs Γ (runs C Λ E rest q)) → (T (not y) → Here K W E cs Γ (prop (post 𝓤 H q (exits n)))) → Here K W E cs Γ (runs C Λ E (seq (cond (copy (place j [])) skip (exit n)) rest) q)
-  tests t {j} {n} {y} c h held failed = record { seq =
-      first t $ branches t (read-one t 0 E cs refl j (vbool y) h (ap spellOf c)) (λ z. skips t $ record { prf = held z .seq .prf }) (λ z. jumps t $ record { prf = failed z .seq .prf }) }
+  tests t {j} {n} {y} c h held failed = record {
+    seq =
+        first t $ branches t (read-one t 0 E cs refl j (vbool y) h (ap spellOf c)) (λ z. skips t $ record { prf = held z .seq .prf }) (λ z. jumps t $ record { prf = failed z .seq .prf });
+  }
 
 module _ {M : Type 1} {𝓤 : URA M} {H : Heap 𝓤} {A : Atoms 𝓤} {K : Type 0} {W : Given 𝓤 H A} {E : List (Ty × ℕ)} {cs : List Cell} {Γ : List (Item 𝓤)} where
   -- a goal about the code that follows, said to be one
@@ -103,10 +113,12 @@ module _ {M : Type 1} {𝓤 : URA M} {H : Heap 𝓤} {A : Atoms 𝓤} {K : Type 
   -- `i += 1;` as the last statement of a turn
   pub counts-on : K → {C : Calls 𝓤 H} {Λ : Loops 𝓤 H} {q : Post 𝓤 H} {j x : ℕ} {f : Fine a-usize x} (l : x + 1 < 2 ^ 64) → cellAt cs j ≡ holds a-usize x f → T (inside E j) × (a-usize .ty ≡ spotOf 𝓤 H E j .0) →
       Here K W E (putAt cs j (holds a-usize (x + 1) (refl, l))) Γ (prop (post 𝓤 H q prog.Wp.next)) → Here K W E cs Γ (runs C Λ E (assign (place j []) (op2 (add unsigned) (copy (place j [])) (int w64 1))) q)
-  counts-on t {C} {Λ} {q} {j} {x} l c ok s = record { seq =
-      assigns-last t (bin t (read-one t 0 E cs refl j (vint w64 x) (ok .0) (ap spellOf c)) (lit t tt) (record { fits = l })) (from t (stop t))
-      (local-writes 𝓤 H A W E (spelt cs) (frame E (spelt cs) ∷ Γ) K 0 j (vint w64 (x + 1)) refl (is-inside E j (ok .0)) (fits-local 𝓤 H A W a-usize (spotOf 𝓤 H E j .0) (ok .1) (x + 1) (refl, l))) $
-      subst (λ (vs : List (Option Val)). Seq K W (frame E vs ∷ Γ) (prop (post 𝓤 H q prog.Wp.next))) (sym (spelt-put cs j (holds a-usize (x + 1) (refl, l)))) (s .seq) }
+  counts-on t {C} {Λ} {q} {j} {x} l c ok s = record {
+    seq =
+        assigns-last t (bin t (read-one t 0 E cs refl j (vint w64 x) (ok .0) (ap spellOf c)) (lit t tt) (record { fits = l })) (from t (stop t))
+        (local-writes 𝓤 H A W E (spelt cs) (frame E (spelt cs) ∷ Γ) K 0 j (vint w64 (x + 1)) refl (is-inside E j (ok .0)) (fits-local 𝓤 H A W a-usize (spotOf 𝓤 H E j .0) (ok .1) (x + 1) (refl, l))) $
+        subst (λ (vs : List (Option Val)). Seq K W (frame E vs ∷ Γ) (prop (post 𝓤 H q prog.Wp.next))) (sym (spelt-put cs j (holds a-usize (x + 1) (refl, l)))) (s .seq);
+  }
 
 -- ---- how far a loop over n places has come, and the order by what is left
 

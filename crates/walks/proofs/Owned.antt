@@ -158,40 +158,52 @@ module _ {M : Type 1} {𝓤 : URA M} {H : Heap 𝓤} {A : Atoms 𝓤} {K : Type 
       Way K W E (putAt cs k (holds X x is)) (stands X b o x ∷ Γ) (runs C Λ E rest q) cs (stands X b o x ∷ Γ) (runs C Λ E (seq (assign (place k []) (rvOpd (copy (place j (deref (X .ty) ∷ []))))) rest) q)
   reads-whole t X x {j} {k} {b} {o} is c ok =
       let w = both-true (inside E j) (inside E k) (ok .0) in
-      record { go = now-holds t (holds X x is)
-          (of-opd t (load t (from t (hop t (local-reads 𝓤 H A W E (spelt cs) (frame E (spelt cs) ∷ stands X b o x ∷ Γ) K 0 j (vptr b o) refl (is-inside E j (w .0)) (spelt-at cs j ∙ ap spellOf c)) (stop t))) (look t 1 refl)))
-          (w .1) refl (fits-local 𝓤 H A W X (spotOf 𝓤 H E k .0) (ok .1) x is) }
+      record {
+        go = now-holds t (holds X x is)
+            (of-opd t (load t (from t (hop t (local-reads 𝓤 H A W E (spelt cs) (frame E (spelt cs) ∷ stands X b o x ∷ Γ) K 0 j (vptr b o) refl (is-inside E j (w .0)) (spelt-at cs j ∙ ap spellOf c)) (stop t))) (look t 1 refl)))
+            (w .1) refl (fits-local 𝓤 H A W X (spotOf 𝓤 H E k .0) (ok .1) x is);
+      }
 
   -- `*p = x;`
   pub stores-whole : K → (X : Datum) (x : Of X) {j k b o : ℕ} {y : Of X} {is : Fine X y} → cellIn cs j ≡ thin b o → cellIn cs k ≡ holds X y is → T (inside E j && inside E k) →
       Way K W E cs (stands X b o y ∷ Γ) (runs C Λ E rest q) cs (stands X b o x ∷ Γ) (runs C Λ E (seq (assign (place j (deref (X .ty) ∷ [])) (rvOpd (copy (place k [])))) rest) q)
   stores-whole t X x {j} {k} {b} {o} {y} {is} c d ok =
       let w = both-true (inside E j) (inside E k) ok in
-      record { go = λ s. record { seq =
-          assigns t (of-opd t (read-one t 0 E cs refl k (X .spell y) (w .1) (ap spellOf d)))
-          (from t (hop t (local-reads 𝓤 H A W E (spelt cs) (frame E (spelt cs) ∷ stands X b o x ∷ Γ) K 0 j (vptr b o) refl (is-inside E j (w .0)) (spelt-at cs j ∙ ap spellOf c)) (stop t)))
-          (store t 1 refl (X .laws 𝓤 H A W .typed y (X .spell y ∷ []) is .0)) $ s .seq } }
+      record {
+        go = λ s. record {
+          seq =
+              assigns t (of-opd t (read-one t 0 E cs refl k (X .spell y) (w .1) (ap spellOf d)))
+              (from t (hop t (local-reads 𝓤 H A W E (spelt cs) (frame E (spelt cs) ∷ stands X b o x ∷ Γ) K 0 j (vptr b o) refl (is-inside E j (w .0)) (spelt-at cs j ∙ ap spellOf c)) (stop t)))
+              (store t 1 refl (X .laws 𝓤 H A W .typed y (X .spell y ∷ []) is .0)) $ s .seq;
+        };
+      }
 
   -- `x = p.f;`
   pub reads-field : K → (X F : Datum) {i : ℕ} (f : Field X F i) (x : Of X) {j k b o : ℕ} (is : Fine X x) → cellIn cs j ≡ thin b o → T (inside E j && inside E k) × (F .ty ≡ spotOf 𝓤 H E k .0) →
       Way K W E (putAt cs k (holds F (f .get x) (f .fine-get x is))) (stands X b o x ∷ Γ) (runs C Λ E rest q) cs (stands X b o x ∷ Γ) (runs C Λ E (seq (assign (place k []) (rvOpd (copy (place j (deref (X .ty) ∷ field i ∷ []))))) rest) q)
   reads-field t X F {i} f x {j} {k} {b} {o} is c ok =
       let w = both-true (inside E j) (inside E k) (ok .0) in
-      record { go = now-holds t (holds F (f .get x) (f .fine-get x is))
-          (of-opd t (load t (from t (hop t (local-reads 𝓤 H A W E (spelt cs) (frame E (spelt cs) ∷ stands X b o x ∷ Γ) K 0 j (vptr b o) refl (is-inside E j (w .0)) (spelt-at cs j ∙ ap spellOf c)) (fld t (field-of X F i f) (stop t))))
-          (look-in t 1 (field-part 𝓤 H A K W t X F i f b o x))))
-          (w .1) refl (fits-local 𝓤 H A W F (spotOf 𝓤 H E k .0) (ok .1) (f .get x) (f .fine-get x is)) }
+      record {
+        go = now-holds t (holds F (f .get x) (f .fine-get x is))
+            (of-opd t (load t (from t (hop t (local-reads 𝓤 H A W E (spelt cs) (frame E (spelt cs) ∷ stands X b o x ∷ Γ) K 0 j (vptr b o) refl (is-inside E j (w .0)) (spelt-at cs j ∙ ap spellOf c)) (fld t (field-of X F i f) (stop t))))
+            (look-in t 1 (field-part 𝓤 H A K W t X F i f b o x))))
+            (w .1) refl (fits-local 𝓤 H A W F (spotOf 𝓤 H E k .0) (ok .1) (f .get x) (f .fine-get x is));
+      }
 
   -- `p.f = y;`
   pub stores-field : K → (X F : Datum) {i : ℕ} (f : Field X F i) (x : Of X) {j k b o : ℕ} {y : Of F} {is : Fine F y} → cellIn cs j ≡ thin b o → cellIn cs k ≡ holds F y is → T (inside E j && inside E k) →
       Way K W E cs (stands X b o (f .with y x) ∷ Γ) (runs C Λ E rest q) cs (stands X b o x ∷ Γ) (runs C Λ E (seq (assign (place j (deref (X .ty) ∷ field i ∷ [])) (rvOpd (copy (place k [])))) rest) q)
   stores-field t X F {i} f x {j} {k} {b} {o} {y} {is} c d ok =
       let w = both-true (inside E j) (inside E k) ok in
-      record { go = λ s. record { seq =
-          assigns t (of-opd t (read-one t 0 E cs refl k (F .spell y) (w .1) (ap spellOf d)))
-          (from t (hop t (local-reads 𝓤 H A W E (spelt cs) (frame E (spelt cs) ∷ stands X b o x ∷ Γ) K 0 j (vptr b o) refl (is-inside E j (w .0)) (spelt-at cs j ∙ ap spellOf c)) (fld t (field-of X F i f) (stop t))))
-          (store-in t 1 (field-part 𝓤 H A K W t X F i f b o x) (F .laws 𝓤 H A W .typed y (F .spell y ∷ []) is .0)) $
-          rewrite t 1 (λ (v : Val). ‵ (fat fullShare (X .ty) b o v)) (f .set y x) refl $ s .seq } }
+      record {
+        go = λ s. record {
+          seq =
+              assigns t (of-opd t (read-one t 0 E cs refl k (F .spell y) (w .1) (ap spellOf d)))
+              (from t (hop t (local-reads 𝓤 H A W E (spelt cs) (frame E (spelt cs) ∷ stands X b o x ∷ Γ) K 0 j (vptr b o) refl (is-inside E j (w .0)) (spelt-at cs j ∙ ap spellOf c)) (fld t (field-of X F i f) (stop t))))
+              (store-in t 1 (field-part 𝓤 H A K W t X F i f b o x) (F .laws 𝓤 H A W .typed y (F .spell y ∷ []) is .0)) $
+              rewrite t 1 (λ (v : Val). ‵ (fat fullShare (X .ty) b o v)) (f .set y x) refl $ s .seq;
+        };
+      }
 
 -- ---- a call that is lent the place where x stands, which the callee leaves with y in it
 
@@ -204,14 +216,16 @@ module _ {M : Type 1} {𝓤 : URA M} {H : Heap 𝓤} {A : Atoms 𝓤} {K : Type 
       (fact 𝓤 ((r ≡ s) × (lastsOfRefs (lifetime α) (one-own X) (xs α δ) (picked cs os) (links α δ) ws .0 ≡ y)))) →
       ((is : Fine D s) → Here K W E (putAt cs k (holds D s is)) (‵ (partAt (type-of X) fullShare y b o) ∷ Γ) (runs C Λ E rest q)) →
       Here K W E cs (‵ (partAt (type-of X) fullShare x b o) ∷ Γ) (runs C Λ E (seq (call f os (place k [])) rest) q)
-  calls-own t X b o x y g s ok links asks says go = record { seq =
-      lft-new t tt (λ α. move t (2 ∷ []) $ use1 W (later (exists (λ (δ : GName). ‵ (lent-record (type-of X) b o x α δ) ⊛ ‵ (owed-record (type-of X) b o α δ)))) (lends-ref 𝓤 H A W (type-of X) (named 0) (α ∷ []) x b o) $
-      await t tt $ pick t (λ δ. split t $ move t (2 ∷ []) $ token-in t $ move t (1 ∷ 0 ∷ []) $
-      calls t (lifetime α) (fullShare, tt) (one-own X) (at-place b o δ x, tt) ((refl, (tt, tt)), tt) 1 E cs (‵ (owed-record (type-of X) b o α δ) ∷ frame E (spelt cs) ∷ Γ) refl (ok .0) (links α δ) g (asks α δ)
-      (λ r ws. (r ≡ s) × (ws .0 ≡ y)) (says α δ) (λ r ws e is.
-      move t (1 ∷ []) $ token-out t (α ∷ []) fullShare $ lft-end t tt $ move t (0 ∷ 2 ∷ []) $ use3 W (later (‵ (partAt (type-of X) fullShare (ws .0) b o))) (ref-back 𝓤 H A W (type-of X) (α ∷ []) δ (ws .0) b o) $ await t tt $
-      move t (1 ∷ 0 ∷ []) $ lands-in t cs D k (ok .1) (ok .2) r is
-      (subst (λ (z : Of D × Of X). (is : Fine D (z .0)) → Here K W E (putAt cs k (holds D (z .0) is)) (‵ (partAt (type-of X) fullShare (z .1) b o) ∷ Γ) (runs C Λ E rest q)) (λ i. (sym (e .0) i, sym (e .1) i)) go is)))) }
+  calls-own t X b o x y g s ok links asks says go = record {
+    seq =
+        lft-new t tt (λ α. move t (2 ∷ []) $ use1 W (later (exists (λ (δ : GName). ‵ (lent-record (type-of X) b o x α δ) ⊛ ‵ (owed-record (type-of X) b o α δ)))) (lends-ref 𝓤 H A W (type-of X) (named 0) (α ∷ []) x b o) $
+        await t tt $ pick t (λ δ. split t $ move t (2 ∷ []) $ token-in t $ move t (1 ∷ 0 ∷ []) $
+        calls t (lifetime α) (fullShare, tt) (one-own X) (at-place b o δ x, tt) ((refl, (tt, tt)), tt) 1 E cs (‵ (owed-record (type-of X) b o α δ) ∷ frame E (spelt cs) ∷ Γ) refl (ok .0) (links α δ) g (asks α δ)
+        (λ r ws. (r ≡ s) × (ws .0 ≡ y)) (says α δ) (λ r ws e is.
+        move t (1 ∷ []) $ token-out t (α ∷ []) fullShare $ lft-end t tt $ move t (0 ∷ 2 ∷ []) $ use3 W (later (‵ (partAt (type-of X) fullShare (ws .0) b o))) (ref-back 𝓤 H A W (type-of X) (α ∷ []) δ (ws .0) b o) $ await t tt $
+        move t (1 ∷ 0 ∷ []) $ lands-in t cs D k (ok .1) (ok .2) r is
+        (subst (λ (z : Of D × Of X). (is : Fine D (z .0)) → Here K W E (putAt cs k (holds D (z .0) is)) (‵ (partAt (type-of X) fullShare (z .1) b o) ∷ Γ) (runs C Λ E rest q)) (λ i. (sym (e .0) i, sym (e .1) i)) go is))));
+  }
 
 -- ---- beginning and end
 
@@ -219,16 +233,20 @@ module _ {M : Type 1} {𝓤 : URA M} {H : Heap 𝓤} {A : Atoms 𝓤} {K : Type 
   pub begins-own : K → (X : Datum) {κ : Lft} {p : Share} (x : RefT (Of X)) {req : SProp 𝓤} {b : Body} (φ : Type 0) → ent 𝓤 req (fact 𝓤 φ) →
       (φ → Fine X (x .now) → Here K W E cs (stands X (x .ptr .0) (x .ptr .1) (x .now) ∷ own-closer X κ p (x .ptr .0) (x .ptr .1) (x .name) (x .now) ∷ []) (runs C Λ E b q)) →
       Here K W E cs (‵ (MutRef (named 0) κ (type-of X) .own x (vptr (x .ptr .0) (x .ptr .1) ∷ [])) ∷ raw (toks 𝓤 A 1 (κ, tt) (p, tt)) ∷ raw req ∷ []) (runs C Λ E b q)
-  begins-own t X {κ} {p} x φ asked go = record { seq =
-      move t (3 ∷ []) $ use1 W (raw (fact 𝓤 φ)) asked $ heard t φ (λ h. move t (2 ∷ []) $ token-out t κ p $ move t (2 ∷ 0 ∷ []) $
-      own-opens t tt X (x .ptr .0) (x .ptr .1) (x .name) (x .now) (λ is. move t (2 ∷ []) $ go h is .seq)) }
+  begins-own t X {κ} {p} x φ asked go = record {
+    seq =
+        move t (3 ∷ []) $ use1 W (raw (fact 𝓤 φ)) asked $ heard t φ (λ h. move t (2 ∷ []) $ token-out t κ p $ move t (2 ∷ 0 ∷ []) $
+        own-opens t tt X (x .ptr .0) (x .ptr .1) (x .name) (x .now) (λ is. move t (2 ∷ []) $ go h is .seq));
+  }
 
   pub ends-own : K → (ps : List (Param 1)) (R : Datum) (c : Clauses 𝓤 (ended ps R)) {κ : Lft} {p : Share} (a : Args (ended ps R .signature) (κ, tt)) (g : c (κ, tt) a .ghost) (r : Of R) (is : Fine R r)
       (X : Datum) (x : RefT (Of X)) (y : Of X) → Fine X y → (ws : Fins (κ, tt) (slots ps) (kept ps) a) →
       Returns 𝓤 H A ps R c (κ, tt) (p, tt) a g E cs q r is ws (‵ (MutRef (named 0) κ (type-of X) .own (at-place (x .ptr .0) (x .ptr .1) (x .name) y) (vptr (x .ptr .0) (x .ptr .1) ∷ [])) ∷ raw (toks 𝓤 A 1 (κ, tt) (p, tt)) ∷ []) →
       fitsOf (κ, tt) (slots ps) (kept ps) (stays ps) a ws → ent 𝓤 (emp 𝓤) (c (κ, tt) a .ensures g r (atExit (ended ps R) (κ, tt) a ws)) →
       Here K W E cs (stands X (x .ptr .0) (x .ptr .1) y ∷ own-closer X κ p (x .ptr .0) (x .ptr .1) (x .name) (x .now) ∷ []) (runs C Λ E return q)
-  ends-own t ps R c {κ} {p} a g r is X x y fine ws ok fit says = record { seq =
-      move t (1 ∷ 2 ∷ []) $ own-closes t tt X (x .ptr .0) (x .ptr .1) (x .name) (x .now) y fine $ move t (1 ∷ []) $ token-in t $ move t (2 ∷ 1 ∷ 0 ∷ []) $
-      finishes ps R c (κ, tt) (p, tt) a g t cs (ok .0) (ok .1) (ok .2)
-      (subst (λ (Δ : List (Item 𝓤)). Seq K W Δ (types.Kit.prop (Ended-at ps R 𝓤 H A c (κ, tt) (p, tt) a g (R .spell r)))) (ok .3) (answers ps R c (κ, tt) (p, tt) a g t r is ws fit says)) }
+  ends-own t ps R c {κ} {p} a g r is X x y fine ws ok fit says = record {
+    seq =
+        move t (1 ∷ 2 ∷ []) $ own-closes t tt X (x .ptr .0) (x .ptr .1) (x .name) (x .now) y fine $ move t (1 ∷ []) $ token-in t $ move t (2 ∷ 1 ∷ 0 ∷ []) $
+        finishes ps R c (κ, tt) (p, tt) a g t cs (ok .0) (ok .1) (ok .2)
+        (subst (λ (Δ : List (Item 𝓤)). Seq K W Δ (types.Kit.prop (Ended-at ps R 𝓤 H A c (κ, tt) (p, tt) a g (R .spell r)))) (ok .3) (answers ps R c (κ, tt) (p, tt) a g t r is ws fit says));
+  }

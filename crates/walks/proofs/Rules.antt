@@ -64,10 +64,12 @@ module _ {M : Type 1} {𝓤 : URA M} {H : Heap 𝓤} {A : Atoms 𝓤} {K : Type 
       ((r : Of D) (ws : Fins no-lifetimes (slots (params no-refs (picked cs os))) (kept (params no-refs (picked cs os))) (args no-lifetimes no-refs tt (picked cs os))) → ent 𝓤 (Says g no-lifetimes (args no-lifetimes no-refs tt (picked cs os)) r ws) (fact 𝓤 (φ r))) →
       ((r : Of D) → φ r → (is : Fine D r) → Here K W E (putAt cs k (holds D r is)) Γ (runs C Λ E rest q)) →
       Here K W E cs Γ (runs C Λ E (seq (call f os (place k [])) rest) q)
-  gets-some t g ok asks φ says go = record { seq =
-      use0 W (raw (emp 𝓤)) (id⊢ 𝓤 (emp 𝓤)) $
-      calls t no-lifetimes tt no-refs tt tt 0 E cs (frame E (spelt cs) ∷ Γ) refl (ok .0 .0) (ok .1) g asks (λ r ws. φ r) says (λ r ws e is.
-      drop t $ lands-in t cs D k (ok .0 .1) (ok .0 .2) r is (go r e is)) }
+  gets-some t g ok asks φ says go = record {
+    seq =
+        use0 W (raw (emp 𝓤)) (id⊢ 𝓤 (emp 𝓤)) $
+        calls t no-lifetimes tt no-refs tt tt 0 E cs (frame E (spelt cs) ∷ Γ) refl (ok .0 .0) (ok .1) g asks (λ r ws. φ r) says (λ r ws e is.
+        drop t $ lands-in t cs D k (ok .0 .1) (ok .0 .2) r is (go r e is));
+  }
 
   -- and of one that says what its answer is
   pub gets : K → (g : Callee W C f 0 (params no-refs (picked cs os)) D) (s : Of D) → Ready 𝓤 H E os k D × Links no-lifetimes no-refs tt (picked cs os) →
@@ -143,11 +145,13 @@ module _ {M : Type 1} {𝓤 : URA M} {H : Heap 𝓤} {A : Atoms 𝓤} {K : Type 
       ((r : Of D) (ws : Lasting κs (one-shared X) xs cs os) → ent 𝓤 (Says g κs (args κs (one-shared X) xs (picked cs os)) r ws) (fact 𝓤 (φ r))) →
       ((r : Of D) → φ r → (is : Fine D r) → Here K W E (putAt cs k (holds D r is)) (‵ (flft κ p) ∷ ‵ (shared-own (type-of X) κ b o γ ys) ∷ Γ) (runs C Λ E rest q)) →
       Here K W E cs (‵ (flft κ p) ∷ ‵ (shared-own (type-of X) κ b o γ ys) ∷ Γ) (runs C Λ E (seq (call f os (place k [])) rest) q)
-  calls-passed t X κ p b o γ ys fits g ok asks φ says go = record { seq =
-      move t (2 ∷ []) $ use1 W (‵ (shared-own (type-of X) κ b o γ ys) ⊛ ‵ (shared-own (type-of X) κ b o γ ys)) (shr-slice-copy 𝓤 H A W (named 0) κ (type-of X) .twice (at-place b o γ ys) (sliceVal (b, o) (length ys) ∷ [])) $ split t $
-      move t (3 ∷ []) $ token-in t $ move t (1 ∷ 0 ∷ 2 ∷ []) $
-      calls t (κ, tt) (p, tt) (one-shared X) (at-place b o γ ys, tt) (((refl, fits), (tt, tt)), tt) 1 E cs (‵ (shared-own (type-of X) κ b o γ ys) ∷ frame E (spelt cs) ∷ Γ) refl (ok .0 .0) (ok .1) g asks (λ r ws. φ r) says (λ r ws e is.
-      token-out t κ p $ move t (2 ∷ 0 ∷ 1 ∷ []) $ lands-in t cs D k (ok .0 .1) (ok .0 .2) r is (go r e is)) }
+  calls-passed t X κ p b o γ ys fits g ok asks φ says go = record {
+    seq =
+        move t (2 ∷ []) $ use1 W (‵ (shared-own (type-of X) κ b o γ ys) ⊛ ‵ (shared-own (type-of X) κ b o γ ys)) (shr-slice-copy 𝓤 H A W (named 0) κ (type-of X) .twice (at-place b o γ ys) (sliceVal (b, o) (length ys) ∷ [])) $ split t $
+        move t (3 ∷ []) $ token-in t $ move t (1 ∷ 0 ∷ 2 ∷ []) $
+        calls t (κ, tt) (p, tt) (one-shared X) (at-place b o γ ys, tt) (((refl, fits), (tt, tt)), tt) 1 E cs (‵ (shared-own (type-of X) κ b o γ ys) ∷ frame E (spelt cs) ∷ Γ) refl (ok .0 .0) (ok .1) g asks (λ r ws. φ r) says (λ r ws e is.
+        token-out t κ p $ move t (2 ∷ 0 ∷ 1 ∷ []) $ lands-in t cs D k (ok .0 .1) (ok .0 .2) r is (go r e is));
+  }
 
   -- and by a callee that says what its answer is
   pub calls-passed-is : K → (X : Datum) (κ : Lft) (p : Share) (b o : ℕ) (γ : GName) (ys : List (Of X)) → Room (type-of X) (length ys) →
@@ -171,10 +175,12 @@ module _ {M : Type 1} {𝓤 : URA M} {H : Heap 𝓤} {A : Atoms 𝓤} {K : Type 
       ((α : ℕ) (δ : GName) (r : Of D) (ws : Lasting (lifetime α) (one-shared X) (xs α δ) cs os) → ent 𝓤 (Says g (lifetime α) (args (lifetime α) (one-shared X) (xs α δ) (picked cs os)) r ws) (fact 𝓤 (φ r))) →
       ((r : Of D) → φ r → (is : Fine D r) → Here K W E (putAt cs k (holds D r is)) (‵ (row (type-of X) fullShare ys b o) ∷ Γ) (runs C Λ E rest q)) →
       Here K W E cs (‵ (row (type-of X) fullShare ys b o) ∷ Γ) (runs C Λ E (seq (call f os (place k [])) rest) q)
-  calls-shared t X b o ys fits g φ ok links asks says go = record { seq =
-      move t (1 ∷ 0 ∷ []) $ lends-shared t tt (type-of X) b o ys fits (λ α δ. token-in t $ move t (1 ∷ 0 ∷ []) $
-      calls t (lifetime α) (fullShare, tt) (one-shared X) (at-place b o δ ys, tt) (((refl, fits), (tt, tt)), tt) 1 E cs (‵ (owed-shared (type-of X) b o ys α) ∷ frame E (spelt cs) ∷ Γ) refl (ok .0) (links α δ) g (asks α δ) (λ r ws. φ r) (says α δ) (λ r ws e is.
-      token-out t (α ∷ []) fullShare $ shared-back t tt (type-of X) b o ys α $ move t (1 ∷ 0 ∷ []) $ lands-in t cs D k (ok .1) (ok .2) r is (go r e is))) }
+  calls-shared t X b o ys fits g φ ok links asks says go = record {
+    seq =
+        move t (1 ∷ 0 ∷ []) $ lends-shared t tt (type-of X) b o ys fits (λ α δ. token-in t $ move t (1 ∷ 0 ∷ []) $
+        calls t (lifetime α) (fullShare, tt) (one-shared X) (at-place b o δ ys, tt) (((refl, fits), (tt, tt)), tt) 1 E cs (‵ (owed-shared (type-of X) b o ys α) ∷ frame E (spelt cs) ∷ Γ) refl (ok .0) (links α δ) g (asks α δ) (λ r ws. φ r) (says α δ) (λ r ws e is.
+        token-out t (α ∷ []) fullShare $ shared-back t tt (type-of X) b o ys α $ move t (1 ∷ 0 ∷ []) $ lands-in t cs D k (ok .1) (ok .2) r is (go r e is)));
+  }
 
   pub calls-shared-is : K → (X : Datum) (b o : ℕ) (ys : List (Of X)) → Room (type-of X) (length ys) →
       (g : Callee W C f 1 (params (one-shared X) (picked cs os)) D) (s : Of D) → Ready 𝓤 H E os k D →
@@ -198,12 +204,14 @@ module _ {M : Type 1} {𝓤 : URA M} {H : Heap 𝓤} {A : Atoms 𝓤} {K : Type 
       (fact 𝓤 ((r ≡ s) × (lastsOfRefs (lifetime α) (one-lent X) (xs α δ) (picked cs os) (links α δ) ws .0 ≡ us)))) →
       ((is : Fine D s) → length us ≡ length ys → Here K W E (putAt cs k (holds D s is)) (‵ (row (type-of X) fullShare us b o) ∷ Γ) (runs C Λ E rest q)) →
       Here K W E cs (‵ (row (type-of X) fullShare ys b o) ∷ Γ) (runs C Λ E (seq (call f os (place k [])) rest) q)
-  calls-lent t X b o ys us fits g s ok links asks says go = record { seq =
-      move t (1 ∷ 0 ∷ []) $ lends t tt (type-of X) b o ys fits (λ α δ. token-in t $ move t (1 ∷ 0 ∷ []) $
-      calls t (lifetime α) (fullShare, tt) (one-lent X) (at-place b o δ ys, tt) (((refl, fits), (tt, tt)), tt) 1 E cs (‵ (owed-of (type-of X) b o ys α δ) ∷ frame E (spelt cs) ∷ Γ) refl (ok .0) (links α δ) g (asks α δ)
-      (λ r ws. (r ≡ s) × (ws .0 ≡ us)) (says α δ) (λ r ws e is.
-      move t (1 ∷ []) $ token-out t (α ∷ []) fullShare $ comes-back t tt (type-of X) b o ys (ws .0) α δ (λ l. move t (1 ∷ 0 ∷ []) $ lands-in t cs D k (ok .1) (ok .2) r is
-      (subst (λ (z : Of D × List (Of X)). (is : Fine D (z .0)) → length (z .1) ≡ length ys → Here K W E (putAt cs k (holds D (z .0) is)) (‵ (row (type-of X) fullShare (z .1) b o) ∷ Γ) (runs C Λ E rest q)) (λ i. (sym (e .0) i, sym (e .1) i)) go is l)))) }
+  calls-lent t X b o ys us fits g s ok links asks says go = record {
+    seq =
+        move t (1 ∷ 0 ∷ []) $ lends t tt (type-of X) b o ys fits (λ α δ. token-in t $ move t (1 ∷ 0 ∷ []) $
+        calls t (lifetime α) (fullShare, tt) (one-lent X) (at-place b o δ ys, tt) (((refl, fits), (tt, tt)), tt) 1 E cs (‵ (owed-of (type-of X) b o ys α δ) ∷ frame E (spelt cs) ∷ Γ) refl (ok .0) (links α δ) g (asks α δ)
+        (λ r ws. (r ≡ s) × (ws .0 ≡ us)) (says α δ) (λ r ws e is.
+        move t (1 ∷ []) $ token-out t (α ∷ []) fullShare $ comes-back t tt (type-of X) b o ys (ws .0) α δ (λ l. move t (1 ∷ 0 ∷ []) $ lands-in t cs D k (ok .1) (ok .2) r is
+        (subst (λ (z : Of D × List (Of X)). (is : Fine D (z .0)) → length (z .1) ≡ length ys → Here K W E (putAt cs k (holds D (z .0) is)) (‵ (row (type-of X) fullShare (z .1) b o) ∷ Γ) (runs C Λ E rest q)) (λ i. (sym (e .0) i, sym (e .1) i)) go is l))));
+  }
 
   -- two of them
   pub calls-two : K → (X : Datum) (b o : ℕ) (ys us : List (Of X)) → Room (type-of X) (length ys) → (Y : Datum) (b′ o′ : ℕ) (ys′ us′ : List (Of Y)) → Room (type-of Y) (length ys′) →
@@ -215,16 +223,18 @@ module _ {M : Type 1} {𝓤 : URA M} {H : Heap 𝓤} {A : Atoms 𝓤} {K : Type 
       (fact 𝓤 ((r ≡ s) × (lastsOfRefs (lifetimes α β) (two-lent X Y) (xs α β δ ε) (picked cs os) (links α β δ ε) ws .0 ≡ us) × (lastsOfRefs (lifetimes α β) (two-lent X Y) (xs α β δ ε) (picked cs os) (links α β δ ε) ws .1 .0 ≡ us′)))) →
       ((is : Fine D s) → length us ≡ length ys → length us′ ≡ length ys′ → Here K W E (putAt cs k (holds D s is)) (‵ (row (type-of X) fullShare us b o) ∷ ‵ (row (type-of Y) fullShare us′ b′ o′) ∷ Γ) (runs C Λ E rest q)) →
       Here K W E cs (‵ (row (type-of X) fullShare ys b o) ∷ ‵ (row (type-of Y) fullShare ys′ b′ o′) ∷ Γ) (runs C Λ E (seq (call f os (place k [])) rest) q)
-  calls-two t X b o ys us fits Y b′ o′ ys′ us′ fits′ g s ok links asks says go = record { seq =
-      move t (1 ∷ []) $ lends t tt (type-of X) b o ys fits (λ α δ. move t (4 ∷ []) $ lends t tt (type-of Y) b′ o′ ys′ fits′ (λ β ε.
-      -- [β's token; the second reference; what is owed for it; α's token; the first reference; what is owed for it; the frame]
-      move t (3 ∷ 0 ∷ []) $ tokens-in t $ move t (1 ∷ 3 ∷ 0 ∷ 2 ∷ 4 ∷ []) $
-      calls t (lifetimes α β) (fullShare, (fullShare, tt)) (two-lent X Y) (at-place b o δ ys, (at-place b′ o′ ε ys′, tt)) (((refl, fits), (tt, tt)), (((refl, fits′), (tt, tt)), tt)) 2 E cs
-      (‵ (owed-of (type-of Y) b′ o′ ys′ β ε) ∷ ‵ (owed-of (type-of X) b o ys α δ) ∷ frame E (spelt cs) ∷ Γ) refl (ok .0) (links α β δ ε) g (asks α β δ ε)
-      (λ r ws. (r ≡ s) × (ws .0 ≡ us) × (ws .1 .0 ≡ us′)) (says α β δ ε) (λ r ws e is.
-      -- [the second last list; the first; the tokens; what is owed for the second, for the first; the frame]
-      move t (2 ∷ []) $ tokens-out t (α ∷ []) (β ∷ []) fullShare fullShare $
-      move t (1 ∷ 2 ∷ 4 ∷ []) $ comes-back t tt (type-of Y) b′ o′ ys′ (ws .1 .0) β ε (λ l′. move t (1 ∷ 2 ∷ 3 ∷ []) $ comes-back t tt (type-of X) b o ys (ws .0) α δ (λ l.
-      move t (2 ∷ 0 ∷ 1 ∷ []) $ lands-in t cs D k (ok .1) (ok .2) r is
-      (subst (λ (z : Of D × List (Of X) × List (Of Y)). (is : Fine D (z .0)) → length (z .1) ≡ length ys → length (z .2) ≡ length ys′ →
-      Here K W E (putAt cs k (holds D (z .0) is)) (‵ (row (type-of X) fullShare (z .1) b o) ∷ ‵ (row (type-of Y) fullShare (z .2) b′ o′) ∷ Γ) (runs C Λ E rest q)) (λ i. (sym (e .0) i, sym (e .1) i, sym (e .2) i)) go is l l′)))))) }
+  calls-two t X b o ys us fits Y b′ o′ ys′ us′ fits′ g s ok links asks says go = record {
+    seq =
+        move t (1 ∷ []) $ lends t tt (type-of X) b o ys fits (λ α δ. move t (4 ∷ []) $ lends t tt (type-of Y) b′ o′ ys′ fits′ (λ β ε.
+        -- [β's token; the second reference; what is owed for it; α's token; the first reference; what is owed for it; the frame]
+        move t (3 ∷ 0 ∷ []) $ tokens-in t $ move t (1 ∷ 3 ∷ 0 ∷ 2 ∷ 4 ∷ []) $
+        calls t (lifetimes α β) (fullShare, (fullShare, tt)) (two-lent X Y) (at-place b o δ ys, (at-place b′ o′ ε ys′, tt)) (((refl, fits), (tt, tt)), (((refl, fits′), (tt, tt)), tt)) 2 E cs
+        (‵ (owed-of (type-of Y) b′ o′ ys′ β ε) ∷ ‵ (owed-of (type-of X) b o ys α δ) ∷ frame E (spelt cs) ∷ Γ) refl (ok .0) (links α β δ ε) g (asks α β δ ε)
+        (λ r ws. (r ≡ s) × (ws .0 ≡ us) × (ws .1 .0 ≡ us′)) (says α β δ ε) (λ r ws e is.
+        -- [the second last list; the first; the tokens; what is owed for the second, for the first; the frame]
+        move t (2 ∷ []) $ tokens-out t (α ∷ []) (β ∷ []) fullShare fullShare $
+        move t (1 ∷ 2 ∷ 4 ∷ []) $ comes-back t tt (type-of Y) b′ o′ ys′ (ws .1 .0) β ε (λ l′. move t (1 ∷ 2 ∷ 3 ∷ []) $ comes-back t tt (type-of X) b o ys (ws .0) α δ (λ l.
+        move t (2 ∷ 0 ∷ 1 ∷ []) $ lands-in t cs D k (ok .1) (ok .2) r is
+        (subst (λ (z : Of D × List (Of X) × List (Of Y)). (is : Fine D (z .0)) → length (z .1) ≡ length ys → length (z .2) ≡ length ys′ →
+        Here K W E (putAt cs k (holds D (z .0) is)) (‵ (row (type-of X) fullShare (z .1) b o) ∷ ‵ (row (type-of Y) fullShare (z .2) b′ o′) ∷ Γ) (runs C Λ E rest q)) (λ i. (sym (e .0) i, sym (e .1) i, sym (e .2) i)) go is l l′))))));
+  }

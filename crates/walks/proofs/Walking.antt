@@ -1,5 +1,5 @@
 -- What the file of a walk names of this crate, in one place.
-pub use types.Kit.{!}
+pub use types.Kit.{ ! }
 pub use contract.Monad.{fact}
 pub use base.Logic.{id⊢}
 pub use Rattle.walks.proofs.Data.{Datum, Of, Fine, a-usize, a-u32, a-bool, a-unit}

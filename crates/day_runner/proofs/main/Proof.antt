@@ -7,7 +7,7 @@ use Rattle.day_runner.proofs.main.Statement.{statement}
 use Rattle.day_runner.proofs.main.Tie as tie
 
 abbrev Inv-loop : tie.InvT-loop
-Inv-loop bytes₀ out₀ ran₀ passes₀ bytes out ran passes = Within (ran .place .input) (length bytes) × (65536 ≡ length bytes) × (65536 ≡ length out)
+Inv-loop bytes₀ out₀ ran₀ passes₀ bytes out ran passes = Within (ran .progress .input) (length bytes) × (65536 ≡ length bytes) × (65536 ≡ length out)
 
 abbrev μ-loop : tie.MeasureT-loop
 μ-loop bytes₀ out₀ ran₀ passes₀ bytes out ran passes = passes

@@ -40,7 +40,7 @@ returns-4 c =
     let args = at-if1 .before .before .before .args in
     let line = in-turn (omega arith) (at-body .body .ensures .0) (c .before .before .byte .ensures) in
     let goal = laid-with-room (args .line) (args .words .now) (args .out .now) (args .at) (at-if1 .if1 .left) (omega arith) in
-    (line .place ∙ sym (goal .0), line .buffer ∙ sym (goal .1))
+    (line .end ∙ sym (goal .0), line .buffer ∙ sym (goal .1))
 
 pub lay-spec : {M : Type 1} → statement M
 lay-spec =

@@ -7,7 +7,7 @@ use native.Mathlib.Decide.{decLt}
 use native.Mathlib.Omega.{arith}
 use lib.Dec.{leb}
 use borrow.Author.Tests.{eq-eqb, ne-eqb, le-leb, lt-leb}
-use Rattle.day_runner.specs.Rounds.{goes}
+use Rattle.day_runner.specs.Laps.{goes}
 use borrow.Author.Needs.{needs}
 use Rattle.day_runner.proofs.records.can_go.Statement.{statement}
 use Rattle.day_runner.proofs.records.can_go.Tie as tie

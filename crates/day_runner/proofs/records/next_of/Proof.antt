@@ -3,8 +3,8 @@ use Prim.Native.Nat.{_-_}
 use mathlib.Core.Path.{sym, _∙_}
 use native.Mathlib.Omega.{arith}
 use lib.ListN.{take, drop, length-take}
-use Rattle.dayfile.proofs.Files.{records-ends}
-use Rattle.day_runner.specs.Rounds.{nextIn}
+use Rattle.dayfile.proofs.Reader.{found-consumes}
+use Rattle.day_runner.specs.Laps.{nextIn}
 use borrow.Author.Needs.{needs}
 use Rattle.day_runner.proofs.records.next_of.Statement.{statement}
 use Rattle.day_runner.proofs.records.next_of.Tie as tie
@@ -29,7 +29,7 @@ returns c = (
       let a = c .before .before .before .before .args in
       let i = a .at .input in
       let part = take (i .end - i .at) (drop (i .at) (a .bytes .now)) in
-      let w = records-ends part .consumes r k (sym (c .read .ensures) ∙ q) in
+      let w = found-consumes part r k (sym (c .read .ensures) ∙ q) in
       let l = length-take (i .end - i .at) (drop (i .at) (a .bytes .now)) in
       let p = c .before .before .before .before .pre .start in
       omega arith,

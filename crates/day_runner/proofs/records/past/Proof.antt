@@ -10,22 +10,22 @@ use Rattle.dayfile.specs.declared.Reading.{Reading}
 use Rattle.dayfile.specs.declared.Reading.the-variants.{Found, End, Refused}
 use Rattle.daytext.specs.Buffer.{laidPlace}
 use Rattle.snapshot.specs.declared.Outcome.{Outcome}
-use Rattle.day_runner.specs.declared.records.Place.{Place}
+use Rattle.day_runner.specs.declared.records.Progress.{Progress}
 use Rattle.day_runner.specs.Printed.{lineOf, isEnd}
 use mathlib.Core.Path.{_≡_, refl, sym, ap, _∙_}
 use native.Mathlib.Omega.{arith}
-use Rattle.day_runner.specs.Rounds.{placePast}
+use Rattle.day_runner.specs.Laps.{progressPast}
 use borrow.Author.Needs.{needs}
 use Rattle.day_runner.proofs.records.past.Statement.{statement}
 use Rattle.day_runner.proofs.records.past.Tie as tie
 
--- the place once no record was found, and the run has ended or not
-abbrev endOf : Place → Outcome → ℕ → Bool → Place
+-- the progress once no record was found, and the run has ended or not
+abbrev endOf : Progress → Outcome → ℕ → Bool → Progress
 endOf p o w e =
     record { day = o .day; input = record { at = p .input .end; end = p .input .end; last = true }; written = w; ended = e; left = p .left - 1 }
 
-past-end : (p : Place) (o : Outcome) (w : ℕ) (x : Reading) → OneOf (1 ∷ 2 ∷ []) (tagOf X.the-type x) → endOf p o w (isEnd x) ≡ placePast p o w x
-unfolding placePast
+past-end : (p : Progress) (o : Outcome) (w : ℕ) (x : Reading) → OneOf (1 ∷ 2 ∷ []) (tagOf X.the-type x) → endOf p o w (isEnd x) ≡ progressPast p o w x
+unfolding progressPast
 past-end p o w (Found r n) k = absurd (miss (1 ∷ 2 ∷ []) 0 tt k)
 past-end p o w End k = refl
 past-end p o w (Refused r) k = refl
@@ -64,13 +64,13 @@ same-length-2 : tie.Need-same-length-2
 same-length-2 c = search needs
 
 returns-2 : tie.Need-returns-2
-unfolding placePast
+unfolding progressPast
 returns-2 c =
     let a = c .before .before .before .before .before .before .before .before .before .before .before .before .before .args in
     let lay = c .before .before .before .before .before .before .before .lay .ensures in
     let k = c .before .before .x .given in
     let w = laidPlace (lineOf (a .o) (a .x)) (take (a .o .day .count) (a .page .now)) (a .out .now) (a .at .written) in (
-      ap (λ v. placePast (a .at) (a .o) v (Found (k .0 .0) (k .0 .1 .0))) (lay .0) ∙ sym (ap (placePast (a .at) (a .o) w) (k .1)),
+      ap (λ v. progressPast (a .at) (a .o) v (Found (k .0 .0) (k .0 .1 .0))) (lay .0) ∙ sym (ap (progressPast (a .at) (a .o) w) (k .1)),
       lay .1,
     )
 

@@ -14,7 +14,7 @@ same-length : tie.Need-same-length
 same-length c = search needs
 
 returns : tie.Need-returns
-returns c = record { buffer = laid-byte _ _ _ (search needs); place = refl }
+returns c = record { buffer = laid-byte _ _ _ (search needs); end = refl }
 
 pub byte-spec : {M : Type 1} → statement M
 byte-spec = tie.close (tie.spec slice-write-out add-result same-length returns)

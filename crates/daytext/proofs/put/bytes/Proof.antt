@@ -5,7 +5,7 @@ use mathlib.Core.Path.{_≡_, refl, sym, ap, _∙_}
 use borrow.Author.Needs.{needs}
 use lib.ListN.{length, getD, set, length-set}
 use lib.Seq.{paste, paste-zero, paste-suc, take-length}
-use Rattle.daytext.specs.Buffer.{laid}
+use Rattle.daytext.specs.Buffer.{withText}
 use Rattle.daytext.proofs.put.bytes.Statement.{statement}
 use Rattle.daytext.proofs.put.bytes.Tie as tie
 
@@ -53,7 +53,7 @@ same-length : tie.Need-same-length Inv-loop μ-loop
 same-length c = search needs
 
 returns : tie.Need-returns Inv-loop μ-loop
-unfolding laid
+unfolding withText
 returns c =
     let args = c .before .before .args in
     let all : c .before .loop .i ≡ length (args .text .now) = omega arith in
@@ -62,7 +62,7 @@ returns c =
           c .before .loop .inv .1
           ∙ ap (paste (args .out .now) (args .at) (args .text .now)) all
           ∙ simp take-length;
-      place = ap (λ k. args .at + k) all;
+      end = ap (λ k. args .at + k) all;
     }
 
 pub bytes-spec : {M : Type 1} → statement M

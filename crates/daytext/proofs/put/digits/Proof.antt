@@ -5,7 +5,7 @@ use mathlib.Core.Path.{_≡_, refl, sym, ap, _∙_}
 use borrow.Author.Needs.{needs}
 use lib.ListN.{length, set, length-set}
 use Rattle.daytext.specs.Decimal.{lastDigit, lastDigits}
-use Rattle.daytext.specs.Buffer.{laid}
+use Rattle.daytext.specs.Buffer.{withText}
 use Rattle.daytext.proofs.Numerals.{length-last-digits}
 use Rattle.daytext.proofs.Laying.{laid-nothing, laid-last}
 use Rattle.daytext.proofs.put.digits.Statement.{statement}
@@ -13,16 +13,16 @@ use Rattle.daytext.proofs.put.digits.Tie as tie
 
 -- the last digit stored, and those before it laid, are all of them laid
 laid-digit : (out : List ℕ) (at j rest : ℕ) → at + j < length out
-    → laid (set out (at + j) (lastDigit rest)) at (lastDigits j (rest / 10)) ≡ laid out at (lastDigits (suc j) rest)
+    → withText (set out (at + j) (lastDigit rest)) at (lastDigits j (rest / 10)) ≡ withText out at (lastDigits (suc j) rest)
 laid-digit out at j rest h =
     let l = length-last-digits j (rest / 10) in
-    ap (λ k. laid (set out (at + k) (lastDigit rest)) at (lastDigits j (rest / 10))) (sym l)
+    ap (λ k. withText (set out (at + k) (lastDigit rest)) at (lastDigits j (rest / 10))) (sym l)
     ∙ laid-last out at (lastDigits j (rest / 10)) (lastDigit rest) (omega arith)
 
 -- what is still to be laid, into the buffer as it is, gives all k digits laid into the buffer as it was
 abbrev Inv-loop : tie.InvT-loop
 Inv-loop n k out₀ at rest₀ i₀ out rest i =
-    (i ≤ k) × (length out ≡ length out₀) × (laid out at (lastDigits i rest) ≡ laid out₀ at (lastDigits k n))
+    (i ≤ k) × (length out ≡ length out₀) × (withText out at (lastDigits i rest) ≡ withText out₀ at (lastDigits k n))
 
 abbrev μ-loop : tie.MeasureT-loop
 μ-loop n k out₀ at rest₀ i₀ out rest i = i
@@ -56,7 +56,7 @@ loop-again c =
       omega arith,
       simp length-set (omega arith),
       laid-digit (loop .out) at (loop .i - 1) (loop .rest) (omega arith)
-          ∙ ap (λ k. laid (loop .out) at (lastDigits k (loop .rest))) i
+          ∙ ap (λ k. withText (loop .out) at (lastDigits k (loop .rest))) i
           ∙ loop .inv .2,
     )
 
@@ -68,7 +68,7 @@ returns c =
     let loop = c .before .loop in
     let at = c .before .before .args .at in
     let none : 0 ≡ loop .i = omega arith in
-    sym (laid-nothing (loop .out) at) ∙ ap (λ k. laid (loop .out) at (lastDigits k (loop .rest))) none ∙ loop .inv .2
+    sym (laid-nothing (loop .out) at) ∙ ap (λ k. withText (loop .out) at (lastDigits k (loop .rest))) none ∙ loop .inv .2
 
 pub digits-spec : {M : Type 1} → statement M
 digits-spec =

@@ -4,7 +4,7 @@ use mathlib.Core.Path.{_≡_, sym, ap, _∙_}
 use borrow.Author.Needs.{needs}
 use lib.ListN.{length}
 use Rattle.daytext.specs.Decimal.{decimal}
-use Rattle.daytext.specs.Buffer.{laid}
+use Rattle.daytext.specs.Buffer.{withText}
 use Rattle.daytext.proofs.Numerals.{decimal-digit, decimal-short, length-last-digits}
 use Rattle.daytext.proofs.put.number.Statement.{statement}
 use Rattle.daytext.proofs.put.number.Tie as tie
@@ -51,8 +51,8 @@ returns-2 c =
     let at-places = c .before .before .before .before in
     let k = count at-places in (
       record {
-        buffer = c .before .before .digits .ensures ∙ ap (laid _ _) (sym (at-places .places .ensures));
-        place = omega arith;
+        buffer = c .before .before .digits .ensures ∙ ap (withText _ _) (sym (at-places .places .ensures));
+        end = omega arith;
       },
       omega arith,
     )

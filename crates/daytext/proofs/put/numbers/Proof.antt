@@ -37,7 +37,7 @@ loop-holds c = (
   omega arith,
   omega arith,
   refl,
-  record { buffer = sym (laid-nothing (c .before .before .args .out .now) (c .before .before .args .at)); place = omega arith },
+  record { buffer = sym (laid-nothing (c .before .before .args .out .now) (c .before .before .args .at)); end = omega arith },
 )
 
 byte-requires : tie.Need-byte-requires Inv-loop μ-loop

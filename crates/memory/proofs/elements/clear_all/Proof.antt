@@ -16,6 +16,6 @@ unfolding code.routine
 clear-all-spec 𝓤 H 𝓜 𝓖 𝓡 =
     let c = f.clauses 𝓤 H (𝓖 .A) (𝓜 .mem) (𝓡 .run) in
     let zero-is = callee 𝓤 H 𝓜 𝓖 𝓡 code.env (fill-callee a-process) a-process code.calls-unbounded-turns·records·zero
-        (zero.clauses 𝓤 H (𝓖 .A) (𝓜 .mem) (𝓡 .run)) (λ κs a. tt) (zero-met.met 𝓤 H 𝓜 𝓖 𝓡) in
+    (zero.clauses 𝓤 H (𝓖 .A) (𝓜 .mem) (𝓡 .run)) (λ κs a. tt) (zero-met.met 𝓤 H 𝓜 𝓖 𝓡) in
     thin (fill-params a-process) a-unit 𝓤 H 𝓜 𝓖 𝓡 code.env c _ _ #f (code.unfolded 𝓤 H 𝓜 𝓡)
     (fills a-process zeroProcess tt 𝓤 H 𝓜 𝓖 𝓡 code.env _ zero-is (asks-nothing 𝓤) (λ r ws. id⊢ 𝓤 _) c (λ κs a h. given 𝓤 refl))

@@ -3,7 +3,7 @@ use Prim.Native.Nat.{_<_}
 use mathlib.Core.Path.{refl}
 use mathlib.Core.List.{List, [], _∷_}
 use lib.ListN.{length, getD}
-use Rattle.walks.proofs.Walking.{!, Param, value, shared, a-usize, thin, _▹_, begins-shared, offset-fits, finds-element, copies-element}
+use Rattle.walks.proofs.Walking.{ !, Param, value, shared, a-usize, thin, _▹_, begins-shared, offset-fits, finds-element, copies-element}
 use Rattle.walks.proofs.Walking.{gets, ends-shared, callee, given, first-said, id⊢}
 use Rattle.unbounded.specs.Processes.{noProcess}
 use Rattle.unbounded_turns.specs.Accesses.{Sound}
@@ -24,7 +24,7 @@ unfolding code.routine
 find-at-spec 𝓤 H 𝓜 𝓖 𝓡 =
     let c = f.clauses 𝓤 H (𝓖 .A) (𝓜 .mem) (𝓡 .run) in
     let finds-is = callee 𝓤 H 𝓜 𝓖 𝓡 code.env (value an-access ∷ value a-register ∷ value a-process ∷ []) a-find code.calls-unbounded-turns·finds·find-page
-        (finds.clauses 𝓤 H (𝓖 .A) (𝓜 .mem) (𝓡 .run)) (λ κs a. tt) (finds-met.met 𝓤 H 𝓜 𝓖 𝓡) in
+    (finds.clauses 𝓤 H (𝓖 .A) (𝓜 .mem) (𝓡 .run)) (λ κs a. tt) (finds-met.met 𝓤 H 𝓜 𝓖 𝓡) in
     thin ps a-find 𝓤 H 𝓜 𝓖 𝓡 code.env c _ _ #f (code.unfolded 𝓤 H 𝓜 𝓡) (λ κs qs a h are bs.
     let x = a .0 in
     let i = a .1 .0 in

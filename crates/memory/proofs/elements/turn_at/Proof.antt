@@ -3,7 +3,7 @@ use Prim.Native.Nat.{_<_}
 use mathlib.Core.Path.{refl}
 use mathlib.Core.List.{List, [], _∷_}
 use lib.ListN.{length, getD, set, length-set}
-use Rattle.walks.proofs.Walking.{!, Param, value, lent, own, a-usize, a-unit, thin, _▹_, begins-lent, offset-fits, finds-element, lends-element}
+use Rattle.walks.proofs.Walking.{ !, Param, value, lent, own, a-usize, a-unit, thin, _▹_, begins-lent, offset-fits, finds-element, lends-element}
 use Rattle.walks.proofs.Walking.{calls-element, unit-stored, ends-lent, callee, given, unit-said, id⊢}
 use Rattle.unbounded.specs.Processes.{noProcess}
 use Rattle.unbounded_turns.specs.Steps.{stateBy}
@@ -24,7 +24,7 @@ unfolding code.routine
 turn-at-spec 𝓤 H 𝓜 𝓖 𝓡 =
     let c = f.clauses 𝓤 H (𝓖 .A) (𝓜 .mem) (𝓡 .run) in
     let turn-own-is = callee 𝓤 H 𝓜 𝓖 𝓡 code.env (own 0 tt a-process ∷ value an-access ∷ value a-register ∷ value a-find ∷ []) a-unit code.calls-memory·elements·turn-own
-        (turn-own.clauses 𝓤 H (𝓖 .A) (𝓜 .mem) (𝓡 .run)) (λ κs a. tt) (turn-own-met.met 𝓤 H 𝓜 𝓖 𝓡) in
+    (turn-own.clauses 𝓤 H (𝓖 .A) (𝓜 .mem) (𝓡 .run)) (λ κs a. tt) (turn-own-met.met 𝓤 H 𝓜 𝓖 𝓡) in
     thin ps a-unit 𝓤 H 𝓜 𝓖 𝓡 code.env c _ _ #f (code.unfolded 𝓤 H 𝓜 𝓡) (λ κs qs a h are bs.
     let x = a .0 in
     let i = a .1 .0 in

@@ -1,13 +1,14 @@
 -- A turn that ends its task stores the register, then the record with nothing collected, then no task; any other the record as the read leaves it, then the task.
 use mathlib.Core.Path.{refl}
 use mathlib.Core.List.{List, [], _∷_}
-use Rattle.walks.proofs.Walking.{!, Param, value, own, a-bool, a-unit, thin, _▹_, begins-own, reads-whole, reads-field, gets, if-leaves}
+use Rattle.walks.proofs.Walking.{ !, Param, value, own, a-bool, a-unit, thin, _▹_, begins-own, reads-whole, reads-field, gets, if-leaves}
 use Rattle.walks.proofs.Walking.{stores-whole, stores-field, unit-stored, ends-own, callee, given, asks-nothing, id⊢}
 use lib.Ieee.Bits.{is-true, is-false}
 use Rattle.unbounded.specs.Processes.{begin}
 use Rattle.unbounded.specs.declared.Task.the-variants.{Idle}
 use Rattle.unbounded_turns.specs.Steps.{readBy, writtenBy, endsBy, taskBy, withTask}
-use Rattle.unbounded_turns.proofs.Steps.{withRegister, state-ended, state-went-on}
+use Rattle.unbounded_turns.proofs.Steps.{state-ended, state-went-on}
+use Rattle.unbounded_turns.proofs.Parts.{withRegister}
 use Rattle.memory.specs.Turning.{Turning}
 use Rattle.memory.proofs.Types.{a-process, a-register, a-task, an-access, a-find, register-field, task-field}
 use Rattle.unbounded_turns.proofs.tasks.ends as ends
@@ -35,17 +36,17 @@ unfolding code.routine
 turn-own-spec 𝓤 H 𝓜 𝓖 𝓡 =
     let c = f.clauses 𝓤 H (𝓖 .A) (𝓜 .mem) (𝓡 .run) in
     let ends-is = callee 𝓤 H 𝓜 𝓖 𝓡 code.env (value a-task ∷ value a-find ∷ []) a-bool code.calls-unbounded-turns·tasks·ends
-        (ends.clauses 𝓤 H (𝓖 .A) (𝓜 .mem) (𝓡 .run)) (λ κs a. tt) (ends-met.met 𝓤 H 𝓜 𝓖 𝓡) in
+    (ends.clauses 𝓤 H (𝓖 .A) (𝓜 .mem) (𝓡 .run)) (λ κs a. tt) (ends-met.met 𝓤 H 𝓜 𝓖 𝓡) in
     let written-is = callee 𝓤 H 𝓜 𝓖 𝓡 code.env (value an-access ∷ value a-process ∷ []) a-register code.calls-unbounded-turns·records·written
-        (written.clauses 𝓤 H (𝓖 .A) (𝓜 .mem) (𝓡 .run)) (λ κs a. tt) (written-met.met 𝓤 H 𝓜 𝓖 𝓡) in
+    (written.clauses 𝓤 H (𝓖 .A) (𝓜 .mem) (𝓡 .run)) (λ κs a. tt) (written-met.met 𝓤 H 𝓜 𝓖 𝓡) in
     let over-is = callee 𝓤 H 𝓜 𝓖 𝓡 code.env (value an-access ∷ value a-process ∷ []) a-process code.calls-unbounded-turns·records·over
-        (over.clauses 𝓤 H (𝓖 .A) (𝓜 .mem) (𝓡 .run)) (λ κs a. tt) (over-met.met 𝓤 H 𝓜 𝓖 𝓡) in
+    (over.clauses 𝓤 H (𝓖 .A) (𝓜 .mem) (𝓡 .run)) (λ κs a. tt) (over-met.met 𝓤 H 𝓜 𝓖 𝓡) in
     let idle-is = callee 𝓤 H 𝓜 𝓖 𝓡 code.env [] a-task code.calls-unbounded-turns·tasks·idle
-        (idle.clauses 𝓤 H (𝓖 .A) (𝓜 .mem) (𝓡 .run)) (λ κs a. tt) (idle-met.met 𝓤 H 𝓜 𝓖 𝓡) in
+    (idle.clauses 𝓤 H (𝓖 .A) (𝓜 .mem) (𝓡 .run)) (λ κs a. tt) (idle-met.met 𝓤 H 𝓜 𝓖 𝓡) in
     let read-is = callee 𝓤 H 𝓜 𝓖 𝓡 code.env (value an-access ∷ value a-register ∷ value a-task ∷ value a-find ∷ value a-process ∷ []) a-process code.calls-unbounded-turns·records·read
-        (read.clauses 𝓤 H (𝓖 .A) (𝓜 .mem) (𝓡 .run)) (λ κs a. tt) (read-met.met 𝓤 H 𝓜 𝓖 𝓡) in
+    (read.clauses 𝓤 H (𝓖 .A) (𝓜 .mem) (𝓡 .run)) (λ κs a. tt) (read-met.met 𝓤 H 𝓜 𝓖 𝓡) in
     let after-is = callee 𝓤 H 𝓜 𝓖 𝓡 code.env (value a-task ∷ value a-find ∷ []) a-task code.calls-unbounded-turns·tasks·task-after
-        (after.clauses 𝓤 H (𝓖 .A) (𝓜 .mem) (𝓡 .run)) (λ κs a. tt) (after-met.met 𝓤 H 𝓜 𝓖 𝓡) in
+    (after.clauses 𝓤 H (𝓖 .A) (𝓜 .mem) (𝓡 .run)) (λ κs a. tt) (after-met.met 𝓤 H 𝓜 𝓖 𝓡) in
     thin ps a-unit 𝓤 H 𝓜 𝓖 𝓡 code.env c _ _ #f (code.unfolded 𝓤 H 𝓜 𝓡) (λ κs qs a h are bs.
     let x = a .0 in
     let p = x .now in

@@ -2,7 +2,7 @@
 use mathlib.Core.Path.{_≡_, refl, sym, ap, _∙_}
 use mathlib.Core.List.{List, [], _∷_}
 use lib.Dec.{T}
-use Rattle.walks.proofs.Walking.{!, Param, value, shared, lent, a-usize, a-bool, thin, _▹_, begins-lent, lends-again, gets, calls-shared, if-leaves}
+use Rattle.walks.proofs.Walking.{ !, Param, value, shared, lent, a-usize, a-bool, thin, _▹_, begins-lent, lends-again, gets, calls-shared, if-leaves}
 use Rattle.walks.proofs.Walking.{calls-lent, ends-lent, callee, asks-nothing, given, two-given, two-said, id⊢}
 use Rattle.admission.specs.Requests.{itemOf, isCall}
 use Rattle.admission.specs.Checks.{asOption, isRefusal}
@@ -34,15 +34,15 @@ unfolding code.routine
 ask-call-spec 𝓤 H 𝓜 𝓖 𝓡 =
     let c = f.clauses 𝓤 H (𝓖 .A) (𝓜 .mem) (𝓡 .run) in
     let no-words-is = callee 𝓤 H 𝓜 𝓖 𝓡 code.env [] a-usize code.calls-admission·requests·no-words
-        (no-words.clauses 𝓤 H (𝓖 .A) (𝓜 .mem) (𝓡 .run)) (λ κs a. tt) (no-words-met.met 𝓤 H 𝓜 𝓖 𝓡) in
+    (no-words.clauses 𝓤 H (𝓖 .A) (𝓜 .mem) (𝓡 .run)) (λ κs a. tt) (no-words-met.met 𝓤 H 𝓜 𝓖 𝓡) in
     let plan-is = callee 𝓤 H 𝓜 𝓖 𝓡 code.env (value a-day ∷ shared 0 tt a-process ∷ value a-request ∷ value a-usize ∷ []) a-check code.calls-memory·table·plan
-        (plan.clauses 𝓤 H (𝓖 .A) (𝓜 .mem) (𝓡 .run)) (λ κs a. tt) (plan-met.met 𝓤 H 𝓜 𝓖 𝓡) in
+    (plan.clauses 𝓤 H (𝓖 .A) (𝓜 .mem) (𝓡 .run)) (λ κs a. tt) (plan-met.met 𝓤 H 𝓜 𝓖 𝓡) in
     let is-refused-is = callee 𝓤 H 𝓜 𝓖 𝓡 code.env (value a-check ∷ []) a-bool code.calls-admission·checks·is-refused
-        (is-refused.clauses 𝓤 H (𝓖 .A) (𝓜 .mem) (𝓡 .run)) (λ κs a. tt) (is-refused-met.met 𝓤 H 𝓜 𝓖 𝓡) in
+    (is-refused.clauses 𝓤 H (𝓖 .A) (𝓜 .mem) (𝓡 .run)) (λ κs a. tt) (is-refused-met.met 𝓤 H 𝓜 𝓖 𝓡) in
     let refused-is = callee 𝓤 H 𝓜 𝓖 𝓡 code.env (value a-day ∷ value a-check ∷ []) an-outcome code.calls-admission·outcomes·refused
-        (refused.clauses 𝓤 H (𝓖 .A) (𝓜 .mem) (𝓡 .run)) (λ κs a. tt) (refused-met.met 𝓤 H 𝓜 𝓖 𝓡) in
+    (refused.clauses 𝓤 H (𝓖 .A) (𝓜 .mem) (𝓡 .run)) (λ κs a. tt) (refused-met.met 𝓤 H 𝓜 𝓖 𝓡) in
     let calls-is = callee 𝓤 H 𝓜 𝓖 𝓡 code.env (value a-day ∷ lent 0 tt a-process ∷ value a-request ∷ []) an-outcome code.calls-memory·table·call
-        (calls.clauses 𝓤 H (𝓖 .A) (𝓜 .mem) (𝓡 .run)) (λ κs a. tt) (calls-met.met 𝓤 H 𝓜 𝓖 𝓡) in
+    (calls.clauses 𝓤 H (𝓖 .A) (𝓜 .mem) (𝓡 .run)) (λ κs a. tt) (calls-met.met 𝓤 H 𝓜 𝓖 𝓡) in
     thin ps an-outcome 𝓤 H 𝓜 𝓖 𝓡 code.env c _ _ #f (code.unfolded 𝓤 H 𝓜 𝓡) (λ κs qs a h are bs.
     let day = a .0 in
     let x = a .1 .0 in

@@ -2,7 +2,7 @@
 use mathlib.Core.Path.{_≡_, refl, sym, ap, _∙_}
 use mathlib.Core.List.{List, [], _∷_, map}
 use lib.ListN.{length, length-map}
-use Rattle.walks.proofs.Walking.{!, Param, value, lent, a-usize, a-u32, a-bool, a-unit, thin, _▹_, begins-lent, counts, gets, gets-some, if-leaves}
+use Rattle.walks.proofs.Walking.{ !, Param, value, lent, a-usize, a-u32, a-bool, a-unit, thin, _▹_, begins-lent, counts, gets, gets-some, if-leaves}
 use Rattle.walks.proofs.Walking.{lends-again, calls-lent, ends-lent, callee, nothing-asked, asks-nothing, unit-said, two-given, id⊢}
 use Rattle.snapshot.specs.Refusals.{firstCause}
 use Rattle.snapshot.specs.Days.{openFor}
@@ -38,15 +38,15 @@ unfolding code.routine
 open-spec 𝓤 H 𝓜 𝓖 𝓡 =
     let c = f.clauses 𝓤 H (𝓖 .A) (𝓜 .mem) (𝓡 .run) in
     let check-is = callee 𝓤 H 𝓜 𝓖 𝓡 code.env (value a-day ∷ value a-usize ∷ value a-u32 ∷ []) a-check code.calls-admission·checks·opening-check
-        (check.clauses 𝓤 H (𝓖 .A) (𝓜 .mem) (𝓡 .run)) (λ κs a. tt) (check-met.met 𝓤 H 𝓜 𝓖 𝓡) in
+    (check.clauses 𝓤 H (𝓖 .A) (𝓜 .mem) (𝓡 .run)) (λ κs a. tt) (check-met.met 𝓤 H 𝓜 𝓖 𝓡) in
     let is-refused-is = callee 𝓤 H 𝓜 𝓖 𝓡 code.env (value a-check ∷ []) a-bool code.calls-admission·checks·is-refused
-        (is-refused.clauses 𝓤 H (𝓖 .A) (𝓜 .mem) (𝓡 .run)) (λ κs a. tt) (is-refused-met.met 𝓤 H 𝓜 𝓖 𝓡) in
+    (is-refused.clauses 𝓤 H (𝓖 .A) (𝓜 .mem) (𝓡 .run)) (λ κs a. tt) (is-refused-met.met 𝓤 H 𝓜 𝓖 𝓡) in
     let refused-is = callee 𝓤 H 𝓜 𝓖 𝓡 code.env (value a-day ∷ value a-check ∷ []) an-outcome code.calls-admission·outcomes·refused
-        (refused.clauses 𝓤 H (𝓖 .A) (𝓜 .mem) (𝓡 .run)) (λ κs a. tt) (refused-met.met 𝓤 H 𝓜 𝓖 𝓡) in
+    (refused.clauses 𝓤 H (𝓖 .A) (𝓜 .mem) (𝓡 .run)) (λ κs a. tt) (refused-met.met 𝓤 H 𝓜 𝓖 𝓡) in
     let clear-is = callee 𝓤 H 𝓜 𝓖 𝓡 code.env (lent 0 tt a-process ∷ []) a-unit code.calls-memory·elements·clear-all
-        (clear.clauses 𝓤 H (𝓖 .A) (𝓜 .mem) (𝓡 .run)) (λ κs a. tt) (clear-met.met 𝓤 H 𝓜 𝓖 𝓡) in
+    (clear.clauses 𝓤 H (𝓖 .A) (𝓜 .mem) (𝓡 .run)) (λ κs a. tt) (clear-met.met 𝓤 H 𝓜 𝓖 𝓡) in
     let opened-is = callee 𝓤 H 𝓜 𝓖 𝓡 code.env (value a-u32 ∷ []) an-outcome code.calls-admission·outcomes·opened
-        (opened.clauses 𝓤 H (𝓖 .A) (𝓜 .mem) (𝓡 .run)) (λ κs a. tt) (opened-met.met 𝓤 H 𝓜 𝓖 𝓡) in
+    (opened.clauses 𝓤 H (𝓖 .A) (𝓜 .mem) (𝓡 .run)) (λ κs a. tt) (opened-met.met 𝓤 H 𝓜 𝓖 𝓡) in
     thin ps an-outcome 𝓤 H 𝓜 𝓖 𝓡 code.env c _ _ #f (code.unfolded 𝓤 H 𝓜 𝓡) (λ κs qs a h are bs.
     let day = a .0 in
     let x = a .1 .0 in

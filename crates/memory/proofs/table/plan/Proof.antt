@@ -5,7 +5,7 @@ use mathlib.Core.Bool.{not}
 use mathlib.Core.List.{List, [], _∷_, foldl}
 use lib.Dec.{T}
 use lib.ListN.{length, getD}
-use Rattle.walks.proofs.Walking.{!, Param, value, shared, a-usize, a-bool, thin, _▹_, begins-shared, gets, gets-some, calls-passed-is}
+use Rattle.walks.proofs.Walking.{ !, Param, value, shared, a-usize, a-bool, thin, _▹_, begins-shared, gets, gets-some, calls-passed-is}
 use Rattle.walks.proofs.Walking.{counts, copies, if-leaves, ends-shared, callee, asks-nothing, given, id⊢}
 use Rattle.snapshot.specs.Refusals.{firstCause}
 use Rattle.snapshot.specs.Requests.{numberIn}
@@ -43,19 +43,19 @@ unfolding code.routine
 plan-spec 𝓤 H 𝓜 𝓖 𝓡 =
     let c = f.clauses 𝓤 H (𝓖 .A) (𝓜 .mem) (𝓡 .run) in
     let limits-is = callee 𝓤 H 𝓜 𝓖 𝓡 code.env (value a-day ∷ []) a-survey code.calls-unbounded-turns·surveys·survey-of
-        (limits.clauses 𝓤 H (𝓖 .A) (𝓜 .mem) (𝓡 .run)) (λ κs a. tt) (limits-met.met 𝓤 H 𝓜 𝓖 𝓡) in
+    (limits.clauses 𝓤 H (𝓖 .A) (𝓜 .mem) (𝓡 .run)) (λ κs a. tt) (limits-met.met 𝓤 H 𝓜 𝓖 𝓡) in
     let survey-is = callee 𝓤 H 𝓜 𝓖 𝓡 code.env (shared 0 tt a-process ∷ value a-survey ∷ []) a-survey code.calls-memory·elements·survey
-        (survey.clauses 𝓤 H (𝓖 .A) (𝓜 .mem) (𝓡 .run)) (λ κs a. tt) (survey-met.met 𝓤 H 𝓜 𝓖 𝓡) in
+    (survey.clauses 𝓤 H (𝓖 .A) (𝓜 .mem) (𝓡 .run)) (λ κs a. tt) (survey-met.met 𝓤 H 𝓜 𝓖 𝓡) in
     let first-is = callee 𝓤 H 𝓜 𝓖 𝓡 code.env (value a-day ∷ value a-usize ∷ value a-survey ∷ value a-request ∷ value a-usize ∷ []) a-check code.calls-admission·checks·first-check
-        (first.clauses 𝓤 H (𝓖 .A) (𝓜 .mem) (𝓡 .run)) (λ κs a. tt) (first-met.met 𝓤 H 𝓜 𝓖 𝓡) in
+    (first.clauses 𝓤 H (𝓖 .A) (𝓜 .mem) (𝓡 .run)) (λ κs a. tt) (first-met.met 𝓤 H 𝓜 𝓖 𝓡) in
     let is-refused-is = callee 𝓤 H 𝓜 𝓖 𝓡 code.env (value a-check ∷ []) a-bool code.calls-admission·checks·is-refused
-        (is-refused.clauses 𝓤 H (𝓖 .A) (𝓜 .mem) (𝓡 .run)) (λ κs a. tt) (is-refused-met.met 𝓤 H 𝓜 𝓖 𝓡) in
+    (is-refused.clauses 𝓤 H (𝓖 .A) (𝓜 .mem) (𝓡 .run)) (λ κs a. tt) (is-refused-met.met 𝓤 H 𝓜 𝓖 𝓡) in
     let index-is = callee 𝓤 H 𝓜 𝓖 𝓡 code.env (value a-request ∷ []) a-usize code.calls-admission·requests·index-in
-        (index.clauses 𝓤 H (𝓖 .A) (𝓜 .mem) (𝓡 .run)) (λ κs a. tt) (index-met.met 𝓤 H 𝓜 𝓖 𝓡) in
+    (index.clauses 𝓤 H (𝓖 .A) (𝓜 .mem) (𝓡 .run)) (λ κs a. tt) (index-met.met 𝓤 H 𝓜 𝓖 𝓡) in
     let rests-is = callee 𝓤 H 𝓜 𝓖 𝓡 code.env (shared 0 tt a-process ∷ value a-usize ∷ []) a-bool code.calls-memory·elements·rests-at
-        (rests.clauses 𝓤 H (𝓖 .A) (𝓜 .mem) (𝓡 .run)) (λ κs a. tt) (rests-met.met 𝓤 H 𝓜 𝓖 𝓡) in
+    (rests.clauses 𝓤 H (𝓖 .A) (𝓜 .mem) (𝓡 .run)) (λ κs a. tt) (rests-met.met 𝓤 H 𝓜 𝓖 𝓡) in
     let last-is = callee 𝓤 H 𝓜 𝓖 𝓡 code.env (value a-survey ∷ value a-request ∷ value a-bool ∷ []) a-check code.calls-admission·checks·last-check
-        (last.clauses 𝓤 H (𝓖 .A) (𝓜 .mem) (𝓡 .run)) (λ κs a. tt) (last-met.met 𝓤 H 𝓜 𝓖 𝓡) in
+    (last.clauses 𝓤 H (𝓖 .A) (𝓜 .mem) (𝓡 .run)) (λ κs a. tt) (last-met.met 𝓤 H 𝓜 𝓖 𝓡) in
     thin ps a-check 𝓤 H 𝓜 𝓖 𝓡 code.env c _ _ #f (code.unfolded 𝓤 H 𝓜 𝓡) (λ κs qs a h are bs.
     let day = a .0 in
     let x = a .1 .0 in

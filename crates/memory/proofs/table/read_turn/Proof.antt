@@ -4,7 +4,7 @@ use native.Mathlib.Nat.{le-trans, lt-of-lt-of-le}
 use mathlib.Core.Path.{_≡_, refl, sym, ap, subst}
 use mathlib.Core.List.{List, [], _∷_}
 use lib.ListN.{length, getD, set}
-use Rattle.walks.proofs.Walking.{!, Param, value, shared, lent, a-usize, a-u32, a-unit, thin, _▹_, begins-two, lends-again, swaps, gets, gets-also}
+use Rattle.walks.proofs.Walking.{ !, Param, value, shared, lent, a-usize, a-u32, a-unit, thin, _▹_, begins-two, lends-again, swaps, gets, gets-also}
 use Rattle.walks.proofs.Walking.{calls-shared-is, calls-lent, ends-two, callee, given, three-given, two-said, unit-said, id⊢}
 use Rattle.unbounded.specs.Processes.{noProcess, turnsOf}
 use Rattle.unbounded.specs.Turns.{placeAt}
@@ -43,21 +43,21 @@ unfolding code.routine
 read-turn-spec 𝓤 H 𝓜 𝓖 𝓡 =
     let c = f.clauses 𝓤 H (𝓖 .A) (𝓜 .mem) (𝓡 .run) in
     let access-is = callee 𝓤 H 𝓜 𝓖 𝓡 code.env (value a-day ∷ value a-task ∷ []) an-access code.calls-unbounded-turns·accesses·access-of
-        (access.clauses 𝓤 H (𝓖 .A) (𝓜 .mem) (𝓡 .run)) (λ κs a. tt) (access-met.met 𝓤 H 𝓜 𝓖 𝓡) in
+    (access.clauses 𝓤 H (𝓖 .A) (𝓜 .mem) (𝓡 .run)) (λ κs a. tt) (access-met.met 𝓤 H 𝓜 𝓖 𝓡) in
     let place-is = callee 𝓤 H 𝓜 𝓖 𝓡 code.env (value an-access ∷ []) a-usize code.calls-unbounded-turns·accesses·place-of
-        (place.clauses 𝓤 H (𝓖 .A) (𝓜 .mem) (𝓡 .run)) (λ κs a. tt) (place-met.met 𝓤 H 𝓜 𝓖 𝓡) in
+    (place.clauses 𝓤 H (𝓖 .A) (𝓜 .mem) (𝓡 .run)) (λ κs a. tt) (place-met.met 𝓤 H 𝓜 𝓖 𝓡) in
     let register-is = callee 𝓤 H 𝓜 𝓖 𝓡 code.env (shared 0 tt a-process ∷ value a-usize ∷ []) a-register code.calls-memory·elements·register-at
-        (register.clauses 𝓤 H (𝓖 .A) (𝓜 .mem) (𝓡 .run)) (λ κs a. tt) (register-met.met 𝓤 H 𝓜 𝓖 𝓡) in
+    (register.clauses 𝓤 H (𝓖 .A) (𝓜 .mem) (𝓡 .run)) (λ κs a. tt) (register-met.met 𝓤 H 𝓜 𝓖 𝓡) in
     let find-is = callee 𝓤 H 𝓜 𝓖 𝓡 code.env (shared 0 tt a-process ∷ value a-usize ∷ value an-access ∷ value a-register ∷ []) a-find code.calls-memory·elements·find-at
-        (find.clauses 𝓤 H (𝓖 .A) (𝓜 .mem) (𝓡 .run)) (λ κs a. tt) (find-met.met 𝓤 H 𝓜 𝓖 𝓡) in
+    (find.clauses 𝓤 H (𝓖 .A) (𝓜 .mem) (𝓡 .run)) (λ κs a. tt) (find-met.met 𝓤 H 𝓜 𝓖 𝓡) in
     let lay-is = callee 𝓤 H 𝓜 𝓖 𝓡 code.env (value an-access ∷ value a-task ∷ value a-find ∷ lent 0 tt a-u32 ∷ []) a-unit code.calls-unbounded-turns·finds·lay-page
-        (lay.clauses 𝓤 H (𝓖 .A) (𝓜 .mem) (𝓡 .run)) (λ κs a. tt) (lay-met.met 𝓤 H 𝓜 𝓖 𝓡) in
+    (lay.clauses 𝓤 H (𝓖 .A) (𝓜 .mem) (𝓡 .run)) (λ κs a. tt) (lay-met.met 𝓤 H 𝓜 𝓖 𝓡) in
     let turns-is = callee 𝓤 H 𝓜 𝓖 𝓡 code.env (lent 0 tt a-process ∷ value a-usize ∷ value an-access ∷ value a-register ∷ value a-find ∷ []) a-unit code.calls-memory·elements·turn-at
-        (turns.clauses 𝓤 H (𝓖 .A) (𝓜 .mem) (𝓡 .run)) (λ κs a. tt) (turns-met.met 𝓤 H 𝓜 𝓖 𝓡) in
+    (turns.clauses 𝓤 H (𝓖 .A) (𝓜 .mem) (𝓡 .run)) (λ κs a. tt) (turns-met.met 𝓤 H 𝓜 𝓖 𝓡) in
     let answer-is = callee 𝓤 H 𝓜 𝓖 𝓡 code.env (value a-task ∷ value a-find ∷ []) an-answer code.calls-unbounded-turns·tasks·answer
-        (answer.clauses 𝓤 H (𝓖 .A) (𝓜 .mem) (𝓡 .run)) (λ κs a. tt) (answer-met.met 𝓤 H 𝓜 𝓖 𝓡) in
+    (answer.clauses 𝓤 H (𝓖 .A) (𝓜 .mem) (𝓡 .run)) (λ κs a. tt) (answer-met.met 𝓤 H 𝓜 𝓖 𝓡) in
     let accepted-is = callee 𝓤 H 𝓜 𝓖 𝓡 code.env (value a-day ∷ value an-answer ∷ []) an-outcome code.calls-admission·outcomes·accepted
-        (accepted.clauses 𝓤 H (𝓖 .A) (𝓜 .mem) (𝓡 .run)) (λ κs a. tt) (accepted-met.met 𝓤 H 𝓜 𝓖 𝓡) in
+    (accepted.clauses 𝓤 H (𝓖 .A) (𝓜 .mem) (𝓡 .run)) (λ κs a. tt) (accepted-met.met 𝓤 H 𝓜 𝓖 𝓡) in
     thin ps an-outcome 𝓤 H 𝓜 𝓖 𝓡 code.env c _ _ #f (code.unfolded 𝓤 H 𝓜 𝓡) (λ κs qs a h are bs.
     let day = a .0 in
     let x = a .1 .0 in

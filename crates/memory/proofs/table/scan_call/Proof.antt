@@ -1,7 +1,7 @@
 -- The request is made, and asked by `ask_call`.
 use mathlib.Core.Path.{refl}
 use mathlib.Core.List.{List, [], _∷_}
-use Rattle.walks.proofs.Walking.{!, Param, value, lent, a-u32, thin, _▹_, begins-lent, lends-again, gets, calls-lent, ends-lent}
+use Rattle.walks.proofs.Walking.{ !, Param, value, lent, a-u32, thin, _▹_, begins-lent, lends-again, gets, calls-lent, ends-lent}
 use Rattle.walks.proofs.Walking.{callee, nothing-asked, asks-nothing, given, two-given, two-said, id⊢}
 use Rattle.snapshot.specs.Days.{scanCall}
 use Rattle.snapshot.specs.declared.Request.the-variants.{Scan}
@@ -25,9 +25,9 @@ unfolding code.routine
 scan-call-spec 𝓤 H 𝓜 𝓖 𝓡 =
     let c = f.clauses 𝓤 H (𝓖 .A) (𝓜 .mem) (𝓡 .run) in
     let makes-is = callee 𝓤 H 𝓜 𝓖 𝓡 code.env (value a-u32 ∷ []) a-request code.calls-admission·requests·scan
-        (makes.clauses 𝓤 H (𝓖 .A) (𝓜 .mem) (𝓡 .run)) (λ κs a. tt) (makes-met.met 𝓤 H 𝓜 𝓖 𝓡) in
+    (makes.clauses 𝓤 H (𝓖 .A) (𝓜 .mem) (𝓡 .run)) (λ κs a. tt) (makes-met.met 𝓤 H 𝓜 𝓖 𝓡) in
     let asks-is = callee 𝓤 H 𝓜 𝓖 𝓡 code.env (value a-day ∷ lent 0 tt a-process ∷ value a-request ∷ []) an-outcome code.calls-memory·table·ask-call
-        (asks.clauses 𝓤 H (𝓖 .A) (𝓜 .mem) (𝓡 .run)) (λ κs a. tt) (asks-met.met 𝓤 H 𝓜 𝓖 𝓡) in
+    (asks.clauses 𝓤 H (𝓖 .A) (𝓜 .mem) (𝓡 .run)) (λ κs a. tt) (asks-met.met 𝓤 H 𝓜 𝓖 𝓡) in
     thin ps an-outcome 𝓤 H 𝓜 𝓖 𝓡 code.env c _ _ #f (code.unfolded 𝓤 H 𝓜 𝓡) (λ κs qs a h are bs.
     let day = a .0 in
     let x = a .1 .0 in

@@ -3,7 +3,7 @@ use mathlib.Core.Path.{_≡_, refl, sym, ap, subst, _∙_}
 use mathlib.Core.List.{List, [], _∷_}
 use mathlib.Core.Option.{none}
 use lib.ListN.{length}
-use Rattle.walks.proofs.Walking.{!, Param, value, shared, lent, a-usize, a-u32, a-bool, thin, _▹_, begins-two, lends-again, counts, gets, calls-shared, if-leaves}
+use Rattle.walks.proofs.Walking.{ !, Param, value, shared, lent, a-usize, a-u32, a-bool, thin, _▹_, begins-two, lends-again, counts, gets, calls-shared, if-leaves}
 use Rattle.walks.proofs.Walking.{calls-lent, calls-two, ends-two, callee, nothing-asked, asks-nothing, given, three-given, two-said, three-said, id⊢}
 use Rattle.snapshot.specs.Requests.{numberIn}
 use Rattle.snapshot.specs.Days.{openFor}
@@ -47,23 +47,23 @@ unfolding code.routine
 step-spec 𝓤 H 𝓜 𝓖 𝓡 =
     let c = f.clauses 𝓤 H (𝓖 .A) (𝓜 .mem) (𝓡 .run) in
     let is-opening-is = callee 𝓤 H 𝓜 𝓖 𝓡 code.env (value a-request ∷ []) a-bool code.calls-admission·requests·is-opening
-        (is-opening.clauses 𝓤 H (𝓖 .A) (𝓜 .mem) (𝓡 .run)) (λ κs a. tt) (is-opening-met.met 𝓤 H 𝓜 𝓖 𝓡) in
+    (is-opening.clauses 𝓤 H (𝓖 .A) (𝓜 .mem) (𝓡 .run)) (λ κs a. tt) (is-opening-met.met 𝓤 H 𝓜 𝓖 𝓡) in
     let number-is = callee 𝓤 H 𝓜 𝓖 𝓡 code.env (value a-request ∷ []) a-u32 code.calls-snapshot·number-in
-        (number.clauses 𝓤 H (𝓖 .A) (𝓜 .mem) (𝓡 .run)) (λ κs a. tt) (number-met.met 𝓤 H 𝓜 𝓖 𝓡) in
+    (number.clauses 𝓤 H (𝓖 .A) (𝓜 .mem) (𝓡 .run)) (λ κs a. tt) (number-met.met 𝓤 H 𝓜 𝓖 𝓡) in
     let opens-is = callee 𝓤 H 𝓜 𝓖 𝓡 code.env (value a-day ∷ lent 0 tt a-process ∷ value a-u32 ∷ []) an-outcome code.calls-memory·table·open
-        (opens.clauses 𝓤 H (𝓖 .A) (𝓜 .mem) (𝓡 .run)) (λ κs a. tt) (opens-met.met 𝓤 H 𝓜 𝓖 𝓡) in
+    (opens.clauses 𝓤 H (𝓖 .A) (𝓜 .mem) (𝓡 .run)) (λ κs a. tt) (opens-met.met 𝓤 H 𝓜 𝓖 𝓡) in
     let plan-is = callee 𝓤 H 𝓜 𝓖 𝓡 code.env (value a-day ∷ shared 0 tt a-process ∷ value a-request ∷ value a-usize ∷ []) a-check code.calls-memory·table·plan
-        (plan.clauses 𝓤 H (𝓖 .A) (𝓜 .mem) (𝓡 .run)) (λ κs a. tt) (plan-met.met 𝓤 H 𝓜 𝓖 𝓡) in
+    (plan.clauses 𝓤 H (𝓖 .A) (𝓜 .mem) (𝓡 .run)) (λ κs a. tt) (plan-met.met 𝓤 H 𝓜 𝓖 𝓡) in
     let is-refused-is = callee 𝓤 H 𝓜 𝓖 𝓡 code.env (value a-check ∷ []) a-bool code.calls-admission·checks·is-refused
-        (is-refused.clauses 𝓤 H (𝓖 .A) (𝓜 .mem) (𝓡 .run)) (λ κs a. tt) (is-refused-met.met 𝓤 H 𝓜 𝓖 𝓡) in
+    (is-refused.clauses 𝓤 H (𝓖 .A) (𝓜 .mem) (𝓡 .run)) (λ κs a. tt) (is-refused-met.met 𝓤 H 𝓜 𝓖 𝓡) in
     let refused-is = callee 𝓤 H 𝓜 𝓖 𝓡 code.env (value a-day ∷ value a-check ∷ []) an-outcome code.calls-admission·outcomes·refused
-        (refused.clauses 𝓤 H (𝓖 .A) (𝓜 .mem) (𝓡 .run)) (λ κs a. tt) (refused-met.met 𝓤 H 𝓜 𝓖 𝓡) in
+    (refused.clauses 𝓤 H (𝓖 .A) (𝓜 .mem) (𝓡 .run)) (λ κs a. tt) (refused-met.met 𝓤 H 𝓜 𝓖 𝓡) in
     let is-call-is = callee 𝓤 H 𝓜 𝓖 𝓡 code.env (value a-request ∷ []) a-bool code.calls-admission·requests·is-call
-        (is-call.clauses 𝓤 H (𝓖 .A) (𝓜 .mem) (𝓡 .run)) (λ κs a. tt) (is-call-met.met 𝓤 H 𝓜 𝓖 𝓡) in
+    (is-call.clauses 𝓤 H (𝓖 .A) (𝓜 .mem) (𝓡 .run)) (λ κs a. tt) (is-call-met.met 𝓤 H 𝓜 𝓖 𝓡) in
     let calls-is = callee 𝓤 H 𝓜 𝓖 𝓡 code.env (value a-day ∷ lent 0 tt a-process ∷ value a-request ∷ []) an-outcome code.calls-memory·table·call
-        (calls.clauses 𝓤 H (𝓖 .A) (𝓜 .mem) (𝓡 .run)) (λ κs a. tt) (calls-met.met 𝓤 H 𝓜 𝓖 𝓡) in
+    (calls.clauses 𝓤 H (𝓖 .A) (𝓜 .mem) (𝓡 .run)) (λ κs a. tt) (calls-met.met 𝓤 H 𝓜 𝓖 𝓡) in
     let turns-is = callee 𝓤 H 𝓜 𝓖 𝓡 code.env (value a-day ∷ lent 0 tt a-process ∷ value a-request ∷ lent 1 tt a-u32 ∷ []) an-outcome code.calls-memory·table·turn-on
-        (turns.clauses 𝓤 H (𝓖 .A) (𝓜 .mem) (𝓡 .run)) (λ κs a. tt) (turns-met.met 𝓤 H 𝓜 𝓖 𝓡) in
+    (turns.clauses 𝓤 H (𝓖 .A) (𝓜 .mem) (𝓡 .run)) (λ κs a. tt) (turns-met.met 𝓤 H 𝓜 𝓖 𝓡) in
     thin ps an-outcome 𝓤 H 𝓜 𝓖 𝓡 code.env c _ _ #f (code.unfolded 𝓤 H 𝓜 𝓡) (λ κs qs a h are bs.
     let day = a .0 in
     let x = a .1 .0 in

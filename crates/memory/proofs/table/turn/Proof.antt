@@ -1,7 +1,7 @@
 -- The request is made, and the table and the page list are lent to `step`.
 use mathlib.Core.Path.{refl}
 use mathlib.Core.List.{List, [], _∷_}
-use Rattle.walks.proofs.Walking.{!, Param, value, lent, a-u32, thin, _▹_, begins-two, lends-again, gets, calls-two, ends-two}
+use Rattle.walks.proofs.Walking.{ !, Param, value, lent, a-u32, thin, _▹_, begins-two, lends-again, gets, calls-two, ends-two}
 use Rattle.walks.proofs.Walking.{callee, nothing-asked, asks-nothing, three-given, three-said, id⊢}
 use Rattle.snapshot.specs.Days.{turnOf}
 use Rattle.snapshot.specs.declared.Request.the-variants.{Turn}
@@ -25,9 +25,9 @@ unfolding code.routine
 turn-spec 𝓤 H 𝓜 𝓖 𝓡 =
     let c = f.clauses 𝓤 H (𝓖 .A) (𝓜 .mem) (𝓡 .run) in
     let makes-is = callee 𝓤 H 𝓜 𝓖 𝓡 code.env (value a-u32 ∷ []) a-request code.calls-admission·requests·turn
-        (makes.clauses 𝓤 H (𝓖 .A) (𝓜 .mem) (𝓡 .run)) (λ κs a. tt) (makes-met.met 𝓤 H 𝓜 𝓖 𝓡) in
+    (makes.clauses 𝓤 H (𝓖 .A) (𝓜 .mem) (𝓡 .run)) (λ κs a. tt) (makes-met.met 𝓤 H 𝓜 𝓖 𝓡) in
     let steps-is = callee 𝓤 H 𝓜 𝓖 𝓡 code.env (value a-day ∷ lent 0 tt a-process ∷ value a-request ∷ lent 1 tt a-u32 ∷ []) an-outcome code.calls-memory·table·step
-        (steps.clauses 𝓤 H (𝓖 .A) (𝓜 .mem) (𝓡 .run)) (λ κs a. tt) (steps-met.met 𝓤 H 𝓜 𝓖 𝓡) in
+    (steps.clauses 𝓤 H (𝓖 .A) (𝓜 .mem) (𝓡 .run)) (λ κs a. tt) (steps-met.met 𝓤 H 𝓜 𝓖 𝓡) in
     thin ps an-outcome 𝓤 H 𝓜 𝓖 𝓡 code.env c _ _ #f (code.unfolded 𝓤 H 𝓜 𝓡) (λ κs qs a h are bs.
     let day = a .0 in
     let x = a .1 .0 in

@@ -7,13 +7,13 @@ use mathlib.Core.Option.{none}
 use lib.Dec.{T}
 use lib.ListN.{getD, set}
 use lib.Ieee.Bits.{is-true, is-false}
-use Rattle.walks.proofs.Walking.{!, Param, value, shared, lent, a-usize, a-u32, a-bool, thin, _▹_, begins-two, lends-again, gets, calls-shared-is, if-leaves}
+use Rattle.walks.proofs.Walking.{ !, Param, value, shared, lent, a-usize, a-u32, a-bool, thin, _▹_, begins-two, lends-again, gets, calls-shared-is, if-leaves}
 use Rattle.walks.proofs.Walking.{calls-lent, calls-two, ends-two, callee, asks-nothing, given, three-given, two-said, three-said, id⊢}
 use Rattle.snapshot.specs.Requests.{numberIn}
 use Rattle.unbounded.specs.Registers.{zeroRegister}
 use Rattle.unbounded.specs.Processes.{noProcess}
-use Rattle.unbounded_turns.specs.Accesses.{accessOf}
-use Rattle.unbounded_turns.specs.Steps.{isReady, nothingFound, stateBy, answerBy, pageBy}
+use Rattle.unbounded_turns.specs.Accesses.{isReady, accessOf}
+use Rattle.unbounded_turns.specs.Steps.{nothingFound, stateBy, answerBy, pageBy}
 use Rattle.admission.specs.Requests.{itemOf, isOpening, isCall}
 use Rattle.admission.specs.Outcomes.{acceptedOutcome}
 use Rattle.memory.specs.Tables.{stateOf, refusalIn}
@@ -24,8 +24,8 @@ use Rattle.admission.proofs.requests.index_in as index
 use Rattle.admission.proofs.requests.index_in.Met as index-met
 use Rattle.memory.proofs.elements.task_at as task
 use Rattle.memory.proofs.elements.task_at.Met as task-met
-use Rattle.unbounded_turns.proofs.tasks.is_ready as is-ready
-use Rattle.unbounded_turns.proofs.tasks.is_ready.Met as is-ready-met
+use Rattle.unbounded_turns.proofs.accesses.is_ready as is-ready
+use Rattle.unbounded_turns.proofs.accesses.is_ready.Met as is-ready-met
 use Rattle.memory.proofs.table.write_turn as write
 use Rattle.memory.proofs.table.write_turn.Met as write-met
 use Rattle.memory.proofs.table.read_turn as read
@@ -43,15 +43,15 @@ unfolding code.routine
 turn-on-spec 𝓤 H 𝓜 𝓖 𝓡 =
     let c = f.clauses 𝓤 H (𝓖 .A) (𝓜 .mem) (𝓡 .run) in
     let index-is = callee 𝓤 H 𝓜 𝓖 𝓡 code.env (value a-request ∷ []) a-usize code.calls-admission·requests·index-in
-        (index.clauses 𝓤 H (𝓖 .A) (𝓜 .mem) (𝓡 .run)) (λ κs a. tt) (index-met.met 𝓤 H 𝓜 𝓖 𝓡) in
+    (index.clauses 𝓤 H (𝓖 .A) (𝓜 .mem) (𝓡 .run)) (λ κs a. tt) (index-met.met 𝓤 H 𝓜 𝓖 𝓡) in
     let task-is = callee 𝓤 H 𝓜 𝓖 𝓡 code.env (shared 0 tt a-process ∷ value a-usize ∷ []) a-task code.calls-memory·elements·task-at
-        (task.clauses 𝓤 H (𝓖 .A) (𝓜 .mem) (𝓡 .run)) (λ κs a. tt) (task-met.met 𝓤 H 𝓜 𝓖 𝓡) in
-    let is-ready-is = callee 𝓤 H 𝓜 𝓖 𝓡 code.env (value a-task ∷ []) a-bool code.calls-unbounded-turns·tasks·is-ready
-        (is-ready.clauses 𝓤 H (𝓖 .A) (𝓜 .mem) (𝓡 .run)) (λ κs a. tt) (is-ready-met.met 𝓤 H 𝓜 𝓖 𝓡) in
+    (task.clauses 𝓤 H (𝓖 .A) (𝓜 .mem) (𝓡 .run)) (λ κs a. tt) (task-met.met 𝓤 H 𝓜 𝓖 𝓡) in
+    let is-ready-is = callee 𝓤 H 𝓜 𝓖 𝓡 code.env (value a-task ∷ []) a-bool code.calls-unbounded-turns·accesses·is-ready
+    (is-ready.clauses 𝓤 H (𝓖 .A) (𝓜 .mem) (𝓡 .run)) (λ κs a. tt) (is-ready-met.met 𝓤 H 𝓜 𝓖 𝓡) in
     let write-is = callee 𝓤 H 𝓜 𝓖 𝓡 code.env (value a-day ∷ lent 0 tt a-process ∷ value a-usize ∷ value a-task ∷ []) an-outcome code.calls-memory·table·write-turn
-        (write.clauses 𝓤 H (𝓖 .A) (𝓜 .mem) (𝓡 .run)) (λ κs a. tt) (write-met.met 𝓤 H 𝓜 𝓖 𝓡) in
+    (write.clauses 𝓤 H (𝓖 .A) (𝓜 .mem) (𝓡 .run)) (λ κs a. tt) (write-met.met 𝓤 H 𝓜 𝓖 𝓡) in
     let read-is = callee 𝓤 H 𝓜 𝓖 𝓡 code.env (value a-day ∷ lent 0 tt a-process ∷ value a-usize ∷ value a-task ∷ lent 1 tt a-u32 ∷ []) an-outcome code.calls-memory·table·read-turn
-        (read.clauses 𝓤 H (𝓖 .A) (𝓜 .mem) (𝓡 .run)) (λ κs a. tt) (read-met.met 𝓤 H 𝓜 𝓖 𝓡) in
+    (read.clauses 𝓤 H (𝓖 .A) (𝓜 .mem) (𝓡 .run)) (λ κs a. tt) (read-met.met 𝓤 H 𝓜 𝓖 𝓡) in
     thin ps an-outcome 𝓤 H 𝓜 𝓖 𝓡 code.env c _ _ #f (code.unfolded 𝓤 H 𝓜 𝓡) (λ κs qs a h are bs.
     let day = a .0 in
     let x = a .1 .0 in

@@ -4,7 +4,7 @@ use native.Mathlib.Omega.{arith}
 use mathlib.Core.Path.{_≡_, refl, sym, ap, subst}
 use mathlib.Core.List.{List, [], _∷_}
 use lib.ListN.{getD, set}
-use Rattle.walks.proofs.Walking.{!, Param, value, lent, a-usize, a-unit, thin, _▹_, begins-lent, lends-again, gets, gets-also, calls-lent, ends-lent}
+use Rattle.walks.proofs.Walking.{ !, Param, value, lent, a-usize, a-unit, thin, _▹_, begins-lent, lends-again, gets, gets-also, calls-lent, ends-lent}
 use Rattle.walks.proofs.Walking.{callee, asks-nothing, given, two-given, two-said, unit-said, id⊢}
 use Rattle.unbounded.specs.Registers.{zeroRegister}
 use Rattle.unbounded.specs.Processes.{noProcess, turnsOf}
@@ -38,17 +38,17 @@ unfolding code.routine
 write-turn-spec 𝓤 H 𝓜 𝓖 𝓡 =
     let c = f.clauses 𝓤 H (𝓖 .A) (𝓜 .mem) (𝓡 .run) in
     let access-is = callee 𝓤 H 𝓜 𝓖 𝓡 code.env (value a-day ∷ value a-task ∷ []) an-access code.calls-unbounded-turns·accesses·access-of
-        (access.clauses 𝓤 H (𝓖 .A) (𝓜 .mem) (𝓡 .run)) (λ κs a. tt) (access-met.met 𝓤 H 𝓜 𝓖 𝓡) in
+    (access.clauses 𝓤 H (𝓖 .A) (𝓜 .mem) (𝓡 .run)) (λ κs a. tt) (access-met.met 𝓤 H 𝓜 𝓖 𝓡) in
     let nothing-is = callee 𝓤 H 𝓜 𝓖 𝓡 code.env [] a-find code.calls-unbounded-turns·finds·nothing-found
-        (nothing.clauses 𝓤 H (𝓖 .A) (𝓜 .mem) (𝓡 .run)) (λ κs a. tt) (nothing-met.met 𝓤 H 𝓜 𝓖 𝓡) in
+    (nothing.clauses 𝓤 H (𝓖 .A) (𝓜 .mem) (𝓡 .run)) (λ κs a. tt) (nothing-met.met 𝓤 H 𝓜 𝓖 𝓡) in
     let no-register-is = callee 𝓤 H 𝓜 𝓖 𝓡 code.env [] a-register code.calls-unbounded-turns·collects·no-register
-        (no-register.clauses 𝓤 H (𝓖 .A) (𝓜 .mem) (𝓡 .run)) (λ κs a. tt) (no-register-met.met 𝓤 H 𝓜 𝓖 𝓡) in
+    (no-register.clauses 𝓤 H (𝓖 .A) (𝓜 .mem) (𝓡 .run)) (λ κs a. tt) (no-register-met.met 𝓤 H 𝓜 𝓖 𝓡) in
     let turns-is = callee 𝓤 H 𝓜 𝓖 𝓡 code.env (lent 0 tt a-process ∷ value a-usize ∷ value an-access ∷ value a-register ∷ value a-find ∷ []) a-unit code.calls-memory·elements·turn-at
-        (turns.clauses 𝓤 H (𝓖 .A) (𝓜 .mem) (𝓡 .run)) (λ κs a. tt) (turns-met.met 𝓤 H 𝓜 𝓖 𝓡) in
+    (turns.clauses 𝓤 H (𝓖 .A) (𝓜 .mem) (𝓡 .run)) (λ κs a. tt) (turns-met.met 𝓤 H 𝓜 𝓖 𝓡) in
     let answer-is = callee 𝓤 H 𝓜 𝓖 𝓡 code.env (value a-task ∷ value a-find ∷ []) an-answer code.calls-unbounded-turns·tasks·answer
-        (answer.clauses 𝓤 H (𝓖 .A) (𝓜 .mem) (𝓡 .run)) (λ κs a. tt) (answer-met.met 𝓤 H 𝓜 𝓖 𝓡) in
+    (answer.clauses 𝓤 H (𝓖 .A) (𝓜 .mem) (𝓡 .run)) (λ κs a. tt) (answer-met.met 𝓤 H 𝓜 𝓖 𝓡) in
     let accepted-is = callee 𝓤 H 𝓜 𝓖 𝓡 code.env (value a-day ∷ value an-answer ∷ []) an-outcome code.calls-admission·outcomes·accepted
-        (accepted.clauses 𝓤 H (𝓖 .A) (𝓜 .mem) (𝓡 .run)) (λ κs a. tt) (accepted-met.met 𝓤 H 𝓜 𝓖 𝓡) in
+    (accepted.clauses 𝓤 H (𝓖 .A) (𝓜 .mem) (𝓡 .run)) (λ κs a. tt) (accepted-met.met 𝓤 H 𝓜 𝓖 𝓡) in
     thin ps an-outcome 𝓤 H 𝓜 𝓖 𝓡 code.env c _ _ #f (code.unfolded 𝓤 H 𝓜 𝓡) (λ κs qs a h are bs.
     let day = a .0 in
     let x = a .1 .0 in

@@ -43,9 +43,10 @@ unfolding isMoved
 returns c =
     let a = c .before .before .before .before .args in
     let l = c .before .before .before .loop in
-    sym (first-below-is (lends (differs ascending (a .t2) (a .t3)) (a .t4)) (a .n) (l .j) (l .inv .0) (l .inv .1)
-    (λ h. moved-lends (differs ascending (a .t2) (a .t3)) (a .t4) (l .j) (other-seqs ascending (a .t2) (a .t3) (l .j) (c .before .if1 .taken))
-    ∙ c .if2 .taken))
+    let d = differs ascending (a .t2) (a .t3) in
+    let moved = other-seqs ascending (a .t2) (a .t3) (l .j) (c .before .if1 .taken) in
+    sym (first-below-is (lends d (a .t4)) (a .n) (l .j) (l .inv .0) (l .inv .1)
+    (λ h. moved-lends d (a .t4) (l .j) moved ∙ c .if2 .taken))
 
 add-j : tie.Need-add-j Inv-loop μ-loop
 add-j c = search needs
@@ -57,12 +58,13 @@ loop-again : tie.Need-loop-again Inv-loop μ-loop
 unfolding isMoved
 loop-again c =
     let a = c .before .before .before .args in
-    let l = c .before .before .loop in (
+    let l = c .before .before .loop in
+    let d = differs ascending (a .t2) (a .t3) in (
       omega arith,
       below-more _ (l .j) (l .inv .1)
           (⊎-elim
-          (λ w. moved-lends (differs ascending (a .t2) (a .t3)) (a .t4) (l .j) (other-seqs ascending (a .t2) (a .t3) (l .j) (w .0 .taken)) ∙ w .1 .left)
-          (λ w. still-lends-not (differs ascending (a .t2) (a .t3)) (a .t4) (l .j) (same-seqs ascending (a .t2) (a .t3) (l .j) (w .left)))
+          (λ w. moved-lends d (a .t4) (l .j) (other-seqs ascending (a .t2) (a .t3) (l .j) (w .0 .taken)) ∙ w .1 .left)
+          (λ w. still-lends-not d (a .t4) (l .j) (same-seqs ascending (a .t2) (a .t3) (l .j) (w .left)))
           (c .if1 .came)),
     )
 

@@ -1,7 +1,8 @@
 -- `unbounded_turns::collects::mark` meets its contract: the processes that were passed are marked as the search marks them.
 use Prim.Native.Nat.{_≤_, _-_}
 use mathlib.Core.Path.{_≡_, refl, sym, ap, _∙_}
-use mathlib.Core.Bool.{true, cond}
+use mathlib.Core.Bool.{Bool, true, cond}
+use mathlib.Core.List.{List}
 use mathlib.Core.Logic.{⊎-elim}
 use borrow.Author.Needs.{needs}
 use native.Mathlib.Omega.{arith}
@@ -49,13 +50,15 @@ loop-again c =
     let a = c .before .before .before .args in
     let l = c .before .before .loop in
     let f = differs ascending (a .t2) (a .t3) in
-    let y = markFrom f (l .j) 0 (a .ms) in (
+    let y = markFrom f (l .j) 0 (a .ms) in
+    let more = marks-more f (l .j) (a .ms) in
+    let marked : Bool → List Bool = λ t. cond t (withMoved y (l .j)) y in (
       omega arith,
       ⊎-elim
           (λ w. w .1 ∙ ap (λ x. set x (l .j) true) (l .inv .1)
-          ∙ sym (marks-more f (l .j) (a .ms) ∙ ap (λ t. cond t (withMoved y (l .j)) y) (other-seqs ascending (a .t2) (a .t3) (l .j) (w .0 .taken))))
+          ∙ sym (more ∙ ap marked (other-seqs ascending (a .t2) (a .t3) (l .j) (w .0 .taken))))
           (λ w. w .1 ∙ l .inv .1
-          ∙ sym (marks-more f (l .j) (a .ms) ∙ ap (λ t. cond t (withMoved y (l .j)) y) (same-seqs ascending (a .t2) (a .t3) (l .j) (w .0 .left))))
+          ∙ sym (more ∙ ap marked (same-seqs ascending (a .t2) (a .t3) (l .j) (w .0 .left))))
           (c .if1 .came),
     )
 

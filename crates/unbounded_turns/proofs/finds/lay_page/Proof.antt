@@ -29,9 +29,10 @@ returns : tie.Need-returns
 returns c =
     let a = c .before .before .before .before .before .before .before .before .before .args in
     let told = c .before .before .before .before .before .enum-told .given in
+    let found = c .before .before .before .before .if1 .taken in
     c .before .before .lay-words .ensures
     ∙ sym (ap (λ k. pageBy (a .a) (a .f) k (a .page .now)) (told .1)
-    ∙ ap (λ b. cond b (over (a .a .n) (a .f .words) (a .page .now)) (a .page .now)) (c .before .before .before .before .if1 .taken))
+    ∙ ap (λ b. cond b (over (a .a .n) (a .f .words) (a .page .now)) (a .page .now)) found)
 
 returns-2 : tie.Need-returns-2
 returns-2 c = search needs

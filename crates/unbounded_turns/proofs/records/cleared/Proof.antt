@@ -11,24 +11,18 @@ use Rattle.unbounded.specs.declared.Register.{Register}
 use Rattle.unbounded.specs.declared.Process.{Process}
 use Rattle.unbounded.specs.Registers.{noRegister, laid, cleared}
 use Rattle.unbounded.specs.Processes.{begin}
-use denote.Struct.Field.{u32-field}
 use Rattle.unbounded.proofs.Register as R
+use Rattle.unbounded_turns.proofs.Parts.{withCollected}
+use denote.Struct.Field.{u32-field}
 use borrow.Author.Needs.{needs}
 use Rattle.unbounded_turns.proofs.records.cleared.Statement.{statement}
 use Rattle.unbounded_turns.proofs.records.cleared.Tie as tie
 
 -- the first i places of p cleared by register z
-abbrev clearedTo : ℕ → ℕ → Register → Process → Process
+abbrev clearedTo : (n i : ℕ) → Register → Process → Process
 clearedTo n i z p =
-    record {
-      register = p .register;
-      task = p .task;
-      first = over i (map (laid n z) (p .first)) (p .first);
-      second = over i (map (laid n z) (p .second)) (p .second);
-      «first_end» = p .«first_end»;
-      view = over i (replicate 8 0) (p .view);
-      moved = p .moved;
-    }
+    let clear : List Register → List Register = λ rs. over i (map (laid n z) rs) rs in
+    withCollected (clear (p .first)) (clear (p .second)) (p .«first_end») (over i (replicate 8 0) (p .view)) (p .moved) p
 
 -- place i cleared in a collect whose first i are
 one-more : (n i : ℕ) (z : Register) (rs : List Register) → i < length rs →
@@ -41,37 +35,29 @@ one-more n i z rs l =
     (ap f (getD-over-at i (map f rs) rs noRegister (omega arith) l) ∙ sym (getD-map-below f rs i noRegister noRegister l))
     ∙ over-more i (map f rs) rs noRegister (omega arith) l
 
-no-word : (i : ℕ) (v : List ℕ) → i < 8 → i < length v → set (over i (replicate 8 0) v) i 0 ≡ over (i + 1) (replicate 8 0) v
+no-word : (i : ℕ) (v : List ℕ) → i < 8 → i < length v →
+    set (over i (replicate 8 0) v) i 0 ≡ over (i + 1) (replicate 8 0) v
 no-word i v l m =
+    let long : length (replicate {A = ℕ} 8 0) ≡ 8 = length-replicate {A = ℕ} 8 0 in
     ap (λ w. set (over i (replicate 8 0) v) i w) (sym (getD-replicate 8 i 0 0 l))
-    ∙ over-more i (replicate 8 0) v 0 (let e : length (replicate {A = ℕ} 8 0) ≡ 8 = length-replicate {A = ℕ} 8 0 in omega arith) m
+    ∙ over-more i (replicate 8 0) v 0 (omega arith) m
 
--- the fields that the loop changes
-abbrev withFields : Process → List Register → List Register → List ℕ → Process
-withFields p a b v =
-    record {
-      register = p .register;
-      task = p .task;
-      first = a;
-      second = b;
-      «first_end» = p .«first_end»;
-      view = v;
-      moved = p .moved;
-    }
+-- a turn of the loop: q with x, y and 0 stored at i
+abbrev stored : ℕ → (x y : Register) → Process → Process
+stored i x y q =
+    withCollected (set (q .first) i x) (set (q .second) i y) (q .«first_end») (set (q .view) i 0) (q .moved) q
 
-same-fields : (p : Process) {a a′ b b′ : List Register} {v v′ : List ℕ} → a ≡ a′ → b ≡ b′ → v ≡ v′ → withFields p a b v ≡ withFields p a′ b′ v′
-same-fields p {a} {a′} {b} {b′} {v} {v′} d e f =
-    ap (λ x. withFields p x b v) d ∙ ap (λ x. withFields p a′ x v) e ∙ ap (λ x. withFields p a′ b′ x) f
-
--- a turn of the loop on q, which stores x and y
-turned-once : (n i : ℕ) (z : Register) (p q : Process) (x y : Register) → q ≡ clearedTo n i z p →
+stored-clears : (n i : ℕ) (z : Register) (p q : Process) (x y : Register) → q ≡ clearedTo n i z p →
     x ≡ laid n z (getD (q .first) i noRegister) → y ≡ laid n z (getD (q .second) i noRegister) →
     i < 8 → i < length (p .first) → i < length (p .second) → i < length (p .view) →
-    withFields q (set (q .first) i x) (set (q .second) i y) (set (q .view) i 0) ≡ clearedTo n (i + 1) z p
-turned-once n i z p q x y e d d′ l la lb lv =
-    same-fields q (ap (set (q .first) i) d) (ap (set (q .second) i) d′) refl
-    ∙ ap (λ s. withFields s (set (s .first) i (laid n z (getD (s .first) i noRegister))) (set (s .second) i (laid n z (getD (s .second) i noRegister))) (set (s .view) i 0)) e
-    ∙ same-fields p (one-more n i z (p .first) la) (one-more n i z (p .second) lb) (no-word i (p .view) l lv)
+    stored i x y q ≡ clearedTo n (i + 1) z p
+stored-clears n i z p q x y e d d′ l la lb lv =
+    let first = one-more n i z (p .first) la in
+    let second = one-more n i z (p .second) lb in
+    let view = no-word i (p .view) l lv in
+    (λ t. stored i (d t) (d′ t) q)
+    ∙ ap (λ s. stored i (laid n z (getD (s .first) i noRegister)) (laid n z (getD (s .second) i noRegister)) s) e
+    ∙ (λ t. withCollected (first t) (second t) (p .«first_end») (view t) (p .moved) p)
 
 abbrev Inv-loop : tie.InvT-loop
 Inv-loop n none q₀ i₀ q i = (i ≤ n) × (q ≡ clearedTo n i none q₀)
@@ -137,7 +123,12 @@ loop-again c =
     let firsts = sym (length-map (p .first) (R.the-field .into)) ∙ fields .0 .1 .0 .1 in
     let seconds = sym (length-map (p .second) (R.the-field .into)) ∙ fields .1 .0 .1 .0 .1 in
     let words = sym (length-map (p .view) (u32-field .into)) ∙ fields .1 .1 .1 .0 .1 .0 .1 in
-    (omega arith, turned-once (start .args .n) (l .i) (c .before .before .before .before .before .before .no-register .result) p (l .q) (c .before .lay .result) (c .lay2 .result) (l .inv .1) (c .before .lay .ensures) (c .lay2 .ensures) (omega arith) (omega (arith, firsts)) (omega (arith, seconds)) (omega (arith, words)))
+    let z = c .before .before .before .before .before .before .no-register .result in (
+      omega arith,
+      stored-clears (start .args .n) (l .i) z p (l .q) (c .before .lay .result) (c .lay2 .result) (l .inv .1)
+          (c .before .lay .ensures) (c .lay2 .ensures) (omega arith)
+          (omega (arith, firsts)) (omega (arith, seconds)) (omega (arith, words)),
+    )
 
 returns : tie.Need-returns Inv-loop μ-loop
 unfolding begin cleared
@@ -145,8 +136,9 @@ returns c =
     let l = c .before .loop in
     let a = c .before .before .before .args in
     let all : l .i ≡ a .n = omega arith in
-    ap (λ q. record { register = q .register; task = q .task; first = q .first; second = q .second; «first_end» = 0; view = q .view; moved = replicate 8 false })
-    (l .inv .1 ∙ ap (λ k. clearedTo (a .n) k (c .before .before .no-register .result) (a .p)) all ∙ ap (λ z. clearedTo (a .n) (a .n) z (a .p)) (c .before .before .no-register .ensures))
+    let z = c .before .before .no-register in
+    ap (λ q. withCollected (q .first) (q .second) 0 (q .view) (replicate 8 false) q)
+    (l .inv .1 ∙ (λ t. clearedTo (a .n) (all t) (z .ensures t) (a .p)))
 
 pub cleared-spec : {M : Type 1} → statement M
 cleared-spec =

@@ -1,4 +1,5 @@
--- `unbounded_turns::records::read` meets its contract: the read is stored in its collect, then the page that is kept, then the marks.
+-- `unbounded_turns::records::read` meets its contract: the read is stored in its collect, then the page that is kept, then the
+-- marks.
 use Prim.Native.Nat.{ℕ, _+_, _-_, _<_, _≤_}
 use mathlib.Core.Path.{_≡_, sym, ap, _∙_}
 use mathlib.Core.Logic.{⊎-elim}
@@ -14,20 +15,18 @@ use Rattle.unbounded.specs.Registers.{noRegister, ascending, laid, readInto, di
 use Rattle.unbounded.specs.Turns.{firstAfter, secondAfter, endAfter}
 use Rattle.unbounded.proofs.Reading.{first-reads, first-waits, second-reads, second-waits}
 use Rattle.unbounded_turns.specs.declared.Access.{Access}
+use Rattle.unbounded_turns.specs.declared.Find.{Find}
 use Rattle.unbounded_turns.specs.Steps.{keepsBy, readBy}
+use Rattle.unbounded_turns.proofs.Parts.{withCollected}
 use borrow.Author.Needs.{needs}
 use Rattle.unbounded_turns.proofs.records.read.Statement.{statement}
 use Rattle.unbounded_turns.proofs.records.read.Tie as tie
 
--- p with other collects, another end of the first, another view and other marks
-abbrev withParts : Process → List Register → List Register → ℕ → List ℕ → List Bool → Process
-withParts p x y e v ms =
-    record { register = p .register; task = p .task; first = x; second = y; «first_end» = e; view = v; moved = ms }
-
 -- p with the marks of a search that passed k processes
 abbrev passes : ℕ → Process → Process
 passes k p =
-    withParts p (p .first) (p .second) (p .«first_end») (p .view) (markFrom (differs ascending (p .first) (p .second)) k 0 (p .moved))
+    let marks = markFrom (differs ascending (p .first) (p .second)) k 0 (p .moved) in
+    withCollected (p .first) (p .second) (p .«first_end») (p .view) marks p
 
 -- the record once r is stored in its collect
 module _ (a : Access) (r : Register) (p : Process) where
@@ -37,21 +36,21 @@ module _ (a : Access) (r : Register) (p : Process) where
   abbrev y : List Register
   y = secondAfter (a .n) (a .pos) r (p .second)
 
-  abbrev stored : List ℕ → Process
-  stored v = withParts p x y (endAfter (a .n) (a .pos) (a .now) (p .«first_end»)) v (p .moved)
+  abbrev stored : (view : List ℕ) → Process
+  stored v = withCollected x y (endAfter (a .n) (a .pos) (a .now) (p .«first_end»)) v (p .moved) p
 
   in-first : (z : Register) (e : ℕ) → a .pos < a .n → z ≡ laid (a .n) r (getD (p .first) (a .pos) noRegister) →
       e ≡ endAfter (a .n) (a .pos) (a .now) (p .«first_end») →
-      withParts p (set (p .first) (a .pos) z) (p .second) e (p .view) (p .moved) ≡ stored (p .view)
+      withCollected (set (p .first) (a .pos) z) (p .second) e (p .view) (p .moved) p ≡ stored (p .view)
   unfolding readInto
   in-first z e l d q =
       let first = ap (set (p .first) (a .pos)) d ∙ sym (first-reads (a .n) r (a .pos) (p .first) l) in
       let second = sym (second-waits (a .n) r (a .pos) (p .second) l) in
-      λ i. withParts p (first i) (second i) (q i) (p .view) (p .moved)
+      λ i. withCollected (first i) (second i) (q i) (p .view) (p .moved) p
 
   in-second : (z : Register) (e : ℕ) → a .n ≤ a .pos → z ≡ laid (a .n) r (getD (p .second) (a .pos - a .n) noRegister) →
       e ≡ endAfter (a .n) (a .pos) (a .now) (p .«first_end») →
-      withParts p (p .first) (set (p .second) (a .pos - a .n) z) e (p .view) (p .moved) ≡ stored (p .view)
+      withCollected (p .first) (set (p .second) (a .pos - a .n) z) e (p .view) (p .moved) p ≡ stored (p .view)
   unfolding readInto
   in-second z e l d q =
       let place = a .pos - a .n in
@@ -61,7 +60,7 @@ module _ (a : Access) (r : Register) (p : Process) where
       ap (set (p .second) place) d
       ∙ sym (second-reads (a .n) r place (p .second))
       ∙ ap (λ k. secondAfter (a .n) k r (p .second)) back in
-      λ i. withParts p (first i) (second i) (q i) (p .view) (p .moved)
+      λ i. withCollected (first i) (second i) (q i) (p .view) (p .moved) p
 
 end-of-requires : tie.Need-end-of-requires
 end-of-requires c κs = search needs
@@ -106,7 +105,8 @@ mark-requires : tie.Need-mark-requires
 mark-requires c κs = search needs
 
 -- the record once r is stored
-at-stored : (c : tie.Joined1) → let s = c .before .before .before .before .args in c .if1 .q ≡ stored (s .a) (s .r) (s .p) (s .p .view)
+at-stored : (c : tie.Joined1) → let s = c .before .before .before .before .args in
+    c .if1 .q ≡ stored (s .a) (s .r) (s .p) (s .p .view)
 at-stored c =
     let s = c .before .before .before .before .args in
     let end = c .before .end-of in
@@ -115,19 +115,23 @@ at-stored c =
     (λ w. w .3 ∙ in-second (s .a) (s .r) (s .p) (w .2 .result) (end .result) (w .0 .left) (w .2 .ensures) (end .ensures))
     (c .if1 .came)
 
--- and once what the task keeps is stored
+-- the view that p has after it, by whether the page of f is kept
+abbrev viewAfter : Access → Process → Find → Bool → List ℕ
+viewAfter a p f b = cond b (over (a .n) (f .words) (p .view)) (p .view)
+
+-- the record once what the task keeps is stored too
 at-kept : (c : tie.Joined2) → let s = c .before .before .before .before .before .before .args in
-    c .if2 .q ≡ stored (s .a) (s .r) (s .p) (cond (keepsBy (s .f) (s .k)) (over (s .a .n) (s .f .words) (s .p .view)) (s .p .view))
+    c .if2 .q ≡ stored (s .a) (s .r) (s .p) (viewAfter (s .a) (s .p) (s .f) (keepsBy (s .f) (s .k)))
 at-kept c =
     let s = c .before .before .before .before .before .before .args in
-    let words = over (s .a .n) (s .f .words) (s .p .view) in
     let q = at-stored (c .before .before) in
     let k = c .before .keeps .ensures in
+    let by : Bool → Process = λ b. stored (s .a) (s .r) (s .p) (viewAfter (s .a) (s .p) (s .f) b) in
     ⊎-elim
     (λ w. w .2
-    ∙ (λ i. withParts (q i) (q i .first) (q i .second) (q i .«first_end») (w .1 .ensures i) (q i .moved))
-    ∙ ap (λ b. stored (s .a) (s .r) (s .p) (cond b words (s .p .view))) (sym (w .0 .taken) ∙ k))
-    (λ w. w .1 ∙ q ∙ ap (λ b. stored (s .a) (s .r) (s .p) (cond b words (s .p .view))) (sym (w .0 .left) ∙ k))
+    ∙ (λ i. withCollected (q i .first) (q i .second) (q i .«first_end») (w .1 .ensures i) (q i .moved) (q i))
+    ∙ ap by (sym (w .0 .taken) ∙ k))
+    (λ w. w .1 ∙ q ∙ ap by (sym (w .0 .left) ∙ k))
     (c .if2 .came)
 
 returns : tie.Need-returns
@@ -136,7 +140,8 @@ returns c =
     let j = c .before .before .before .before .before .before in
     let s = j .before .before .before .before .before .before .args in
     let q = j .if2 .q in
-    ap (withParts q (q .first) (q .second) (q .«first_end») (q .view)) (c .mark .ensures) ∙ ap (passes (s .f .passed)) (at-kept j)
+    ap (λ ms. withCollected (q .first) (q .second) (q .«first_end») (q .view) ms q) (c .mark .ensures)
+    ∙ ap (passes (s .f .passed)) (at-kept j)
 
 returns-2 : tie.Need-returns-2
 unfolding readBy
@@ -145,7 +150,7 @@ returns-2 c =
     let s = j .before .before .before .before .before .before .args in
     let none : 0 ≡ s .f .passed = omega arith in
     at-kept j
-    ∙ ap (λ k. passes k (stored (s .a) (s .r) (s .p) (cond (keepsBy (s .f) (s .k)) (over (s .a .n) (s .f .words) (s .p .view)) (s .p .view)))) none
+    ∙ ap (λ k. passes k (stored (s .a) (s .r) (s .p) (viewAfter (s .a) (s .p) (s .f) (keepsBy (s .f) (s .k))))) none
 
 pub read-spec : {M : Type 1} → statement M
 read-spec =

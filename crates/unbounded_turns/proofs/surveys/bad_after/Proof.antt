@@ -14,7 +14,9 @@ returns-2 c = simp (c .before .before .if1 .left, lt-ltb _ _ (c .if2 .taken))
 
 returns-3 : tie.Need-returns-3
 unfolding unsound
-returns-3 c = simp (c .before .before .before .before .if1 .left, le-ltb _ _ (c .before .before .if2 .left), lt-ltb _ _ (c .if3 .taken))
+returns-3 c =
+    let good = c .before .before .before .before .if1 .left in
+    simp (good, le-ltb _ _ (c .before .before .if2 .left), lt-ltb _ _ (c .if3 .taken))
 
 is-overdue-requires : tie.Need-is-overdue-requires
 is-overdue-requires c κs = search needs
@@ -22,8 +24,8 @@ is-overdue-requires c κs = search needs
 returns-4 : tie.Need-returns-4
 unfolding unsound
 returns-4 c =
-    simp (c .before .before .before .before .before .if1 .left, le-ltb _ _ (c .before .before .before .if2 .left), le-ltb _ _ (c .before .if3 .left))
-    (c .is-overdue .ensures)
+    let good = c .before .before .before .before .before .if1 .left in
+    simp (good, le-ltb _ _ (c .before .before .before .if2 .left), le-ltb _ _ (c .before .if3 .left)) (c .is-overdue .ensures)
 
 pub bad-after-spec : {M : Type 1} → statement M
 bad-after-spec = tie.close (tie.spec returns returns-2 returns-3 is-overdue-requires returns-4)

@@ -1,14 +1,20 @@
 -- `unbounded_turns::tasks::task_after` meets its contract.
-use Prim.Native.Nat.{_+_}
+use Prim.Native.Nat.{ℕ, _+_}
 use mathlib.Core.Path.{sym, ap, _∙_}
-use mathlib.Core.Bool.{cond}
+use mathlib.Core.Bool.{Bool, cond}
 use native.Mathlib.Omega.{arith}
+use Rattle.unbounded.specs.declared.Task.{Task}
 use Rattle.unbounded.specs.declared.Task.the-variants.{Idle, Scan, Update, Ready}
 use Rattle.unbounded.specs.Processes.{turnsOf}
+use Rattle.unbounded_turns.specs.declared.Find.{Find}
 use Rattle.unbounded_turns.specs.Steps.{taskBy}
 use borrow.Author.Needs.{needs}
 use Rattle.unbounded_turns.proofs.tasks.task_after.Statement.{statement}
 use Rattle.unbounded_turns.proofs.tasks.task_after.Tie as tie
+
+-- an update after its turn, by whether it found a page
+abbrev updated : Find → (word turns : ℕ) → Bool → Task
+updated f w t b = cond b (Ready w (f .at) (t + 1)) (Update w (t + 1))
 
 enum-told : tie.Need-enum-told
 enum-told c = search needs
@@ -47,13 +53,13 @@ returns-4 : tie.Need-returns-4
 returns-4 c =
     let f = c .before .before .before .before .args .f in
     let k = c .before .before .k2 .given in
-    sym (ap (taskBy f) (k .1) ∙ ap (λ b. cond b (Ready (k .0 .0) (f .at) (k .0 .1 .0 + 1)) (Update (k .0 .0) (k .0 .1 .0 + 1))) (c .if2 .taken))
+    sym (ap (taskBy f) (k .1) ∙ ap (updated f (k .0 .0) (k .0 .1 .0)) (c .if2 .taken))
 
 returns-5 : tie.Need-returns-5
 returns-5 c =
     let f = c .before .before .before .before .args .f in
     let k = c .before .before .k2 .given in
-    sym (ap (taskBy f) (k .1) ∙ ap (λ b. cond b (Ready (k .0 .0) (f .at) (k .0 .1 .0 + 1)) (Update (k .0 .0) (k .0 .1 .0 + 1))) (c .if2 .left))
+    sym (ap (taskBy f) (k .1) ∙ ap (updated f (k .0 .0) (k .0 .1 .0)) (c .if2 .left))
 
 returns-6 : tie.Need-returns-6
 returns-6 c = search needs

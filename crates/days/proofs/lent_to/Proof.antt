@@ -1,12 +1,12 @@
--- `day_runner::records::lent_to` meets its contract.
+-- `days::lent_to` meets its contract.
 use Prim.Native.Nat.{_≤_, _<_}
 use mathlib.Core.Path.{_≡_, sym, ap, subst, _∙_}
 use mathlib.Core.Logic.{⊎-elim}
 use borrow.Author.Tests.{lt-ltb, le-ltb}
-use Rattle.day_runner.specs.Rounds.{wanted, lentTo}
+use Rattle.days.specs.Asking.{wanted, lentTo}
 use borrow.Author.Needs.{needs}
-use Rattle.day_runner.proofs.records.lent_to.Statement.{statement}
-use Rattle.day_runner.proofs.records.lent_to.Tie as tie
+use Rattle.days.proofs.lent_to.Statement.{statement}
+use Rattle.days.proofs.lent_to.Tie as tie
 
 -- how many were asked for, whatever was
 wanted-is : (c : tie.At-match-came) → c .match .n ≡ wanted (c .before .args .day) (c .before .args .x)

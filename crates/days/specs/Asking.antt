@@ -1,19 +1,21 @@
 -- What asking a record of the table comes to: its outcome, the table and the page list afterwards, by the step of the definitions.
 use Prim.Native.Nat.{ℕ}
-use mathlib.Core.Bool.{Bool, true, false}
+use mathlib.Core.Bool.{Bool, true, false, cond}
 use mathlib.Core.List.{List}
+use lib.Dec.{ltb}
 use Rattle.snapshot.specs.Demand.{Result}
+use Rattle.snapshot.specs.Days.{State}
+use Rattle.snapshot.specs.declared.Day.{Day}
+use Rattle.snapshot.specs.declared.Outcome.{Outcome}
 use Rattle.snapshot.specs.declared.Request.{Request}
-use Rattle.snapshot.specs.declared.Request.the-variants.{Turn}
+use Rattle.snapshot.specs.declared.Request.the-variants.{Open, Update, Scan, Turn}
 use Rattle.snapshot.specs.declared.Answer.the-variants.{Read}
 use Rattle.dayfile.specs.declared.Reading.{Reading}
 use Rattle.dayfile.specs.declared.Reading.the-variants.{Found, End, Refused}
-use Rattle.snapshot.specs.declared.Day.{Day}
 use Rattle.unbounded.specs.declared.Process.{Process}
-use Rattle.unbounded.specs.Days.{State, stepped}
-use Rattle.snapshot.specs.declared.Outcome.{Outcome}
+use Rattle.unbounded.specs.Days.{stepped}
+use Rattle.admission.specs.Requests.{itemOf, pageAfter}
 use Rattle.memory.specs.Tables.{stateOf, outcomeOf}
-use Rattle.memory.specs.Requests.{itemOf, pageAfter}
 
 -- whether no record was found
 abbrev pub isNone : Reading → Bool
@@ -27,12 +29,24 @@ requestOf (Found x next) = x
 requestOf End = Turn 0
 requestOf (Refused k) = Turn 0
 
+-- how many records a request wants: as many as an opening asks for, else as the day has processes ("The table of desk records, one
+-- record for each desk, is lent to every call")
+abbrev pub wanted : Day → Request → ℕ
+wanted d (Open k) = k
+wanted d (Update p w) = d .count
+wanted d (Scan p) = d .count
+wanted d (Turn p) = d .count
+
+-- how many of eight records are lent to it
+unfoldable pub lentTo : Day → Request → ℕ
+lentTo d x = let n = wanted d x in cond (ltb n 8) n 8
+
 -- nothing is asked: the day stays
 abbrev pub unaskedOf : Day → Outcome
 unaskedOf d = record { day = d; answer = Read }
 
 -- what asking request x of a day, its table ps and a page list comes to
-abbrev pub steppedBy : Day → List Process → List ℕ → Request → Result State
+abbrev pub steppedBy : Day → List Process → List ℕ → Request → Result (State Process)
 steppedBy d ps page x = stepped (stateOf d ps) (itemOf page x)
 
 abbrev pub askedOutcome : Day → List Process → List ℕ → Reading → Outcome
