@@ -78,23 +78,22 @@ pub fn opening_check(day: Day, size: usize, k: u32) -> Check
 pub fn first_check(day: Day, size: usize, s: Survey, x: Request, words: usize) -> Check
     ensures { λ c. ⌜ asOption c ≡ firstCause (firstCauses day size (isShort day words x) (s .bad) (numberIn x)) ⌝ }
 {
-    cause(
-        day.count == 0,
-        Refusal::OpenState,
-        cause(
-            size != day.count as usize || is_short(day, words, x),
-            Refusal::LentSize,
-            cause(
-                cannot_arise(day, s.bad),
-                Refusal::CannotArise,
-                cause(
-                    is_outside(1, day.count, number_in(x)),
-                    Refusal::ProcessRange,
-                    Check::Passed,
-                ),
-            ),
-        ),
-    )
+    if day.count == 0 {
+        return Check::Refused(Refusal::OpenState);
+    }
+    if size != day.count as usize {
+        return Check::Refused(Refusal::LentSize);
+    }
+    if is_short(day, words, x) {
+        return Check::Refused(Refusal::LentSize);
+    }
+    if cannot_arise(day, s.bad) {
+        return Check::Refused(Refusal::CannotArise);
+    }
+    if is_outside(1, day.count, number_in(x)) {
+        return Check::Refused(Refusal::ProcessRange);
+    }
+    Check::Passed
 }
 
 // The last, by whether the process is idle: 3 or 4, then 5.

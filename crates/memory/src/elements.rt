@@ -7,6 +7,7 @@ use unbounded::Register;
 use unbounded::Task;
 use unbounded_turns::Access;
 use unbounded_turns::Find;
+use unbounded_turns::accesses;
 use unbounded_turns::finds;
 use unbounded_turns::records;
 use unbounded_turns::surveys;
@@ -77,12 +78,12 @@ pub fn find_at(ps: &[Process], i: usize, a: Access, r: Register) -> Find
     finds::find_page(a, r, ps[i])
 }
 
-// A record with task k and nothing collected.
-fn begin_own(p: &mut Process, day: Day, k: Task)
-    requires { ⌜ day .count ≤ 8 ⌝ }
-    ensures { λ r. ⌜ now (p .exit) ≡ begin (day .count) k (now (p .entry)) ⌝ }
+// A record with task k and nothing collected, on a day of n processes.
+fn begin_own(p: &mut Process, n: usize, k: Task)
+    requires { ⌜ n ≤ 8 ⌝ }
+    ensures { λ r. ⌜ now (p .exit) ≡ begin n k (now (p .entry)) ⌝ }
 {
-    *p = records::begun(day, *p);
+    *p = records::cleared(n, *p);
     p.task = k;
 }
 
@@ -91,7 +92,7 @@ pub fn begin_at(ps: &mut [Process], i: usize, day: Day, k: Task)
     requires { ⌜ (i < length (now ps)) × (day .count ≤ 8) ⌝ }
     ensures { λ r. ⌜ now (ps .exit) ≡ set (now (ps .entry)) i (begin (day .count) k (getD (now (ps .entry)) i noProcess)) ⌝ }
 {
-    begin_own(&mut ps[i], day, k);
+    begin_own(&mut ps[i], accesses::count_of(day), k);
 }
 
 // The turn of one process on its own record: its access read r and found f.
@@ -102,8 +103,7 @@ fn turn_own(p: &mut Process, a: Access, r: Register, f: Find)
     let k = p.task;
     if tasks::ends(k, f) {
         p.register = records::written(a, *p);
-        *p = records::over(a, *p);
-        p.task = tasks::idle();
+        begin_own(p, accesses::count_in(a), tasks::idle());
         return;
     }
     *p = records::read(a, r, k, f, *p);

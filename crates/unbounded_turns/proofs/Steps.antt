@@ -205,9 +205,8 @@ unfolding begin
 begin-then-task n k p = refl
 
 module _ (a : Access) (r : Register) (p : Process) (f : Find) (k : Task) where
-  -- a turn that ends its task: the register, nothing collected, no task
-  pub state-ended : endsBy f k ≡ true → let q = withRegister (writtenBy a p k) p in
-      withTask Idle (begin (a .n) (q .task) q) ≡ stateBy a r p f k
+  -- a turn that ends its task: the register, then no task and nothing collected
+  pub state-ended : endsBy f k ≡ true → begin (a .n) Idle (withRegister (writtenBy a p k) p) ≡ stateBy a r p f k
   unfolding stateBy begin
   state-ended e = rw e
 

@@ -71,3 +71,16 @@ pub fn place_of(a: Access) -> usize
 {
     if a.pos < a.n { a.pos } else { a.pos - a.n }
 }
+
+// How many processes a day has, and how many the day of an access.
+pub fn count_of(day: Day) -> usize
+    ensures { λ n. ⌜ n ≡ day .count ⌝ }
+{
+    day.count as usize
+}
+
+pub fn count_in(a: Access) -> usize
+    ensures { λ n. ⌜ n ≡ a .n ⌝ }
+{
+    a.n
+}

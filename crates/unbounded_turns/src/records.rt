@@ -5,7 +5,6 @@ use crate::Find;
 use crate::collects;
 use crate::tasks;
 use admission::words::over_words;
-use snapshot::Day;
 use unbounded::Process;
 use unbounded::Register;
 use unbounded::Task;
@@ -64,7 +63,7 @@ pub fn rests(p: Process) -> bool
 }
 
 // The record with nothing collected, on a day of n processes.
-fn cleared(n: usize, p: Process) -> Process
+pub fn cleared(n: usize, p: Process) -> Process
     requires { ⌜ n ≤ 8 ⌝ }
     ensures { λ q. ⌜ q ≡ begin n (p .task) p ⌝ }
 {
@@ -83,21 +82,6 @@ fn cleared(n: usize, p: Process) -> Process
     q.moved = unmarked;
     q.first_end = 0;
     q
-}
-
-// The same as a call begins a task, and as the turn that ends one leaves it.
-pub fn begun(day: Day, p: Process) -> Process
-    requires { ⌜ day .count ≤ 8 ⌝ }
-    ensures { λ q. ⌜ q ≡ begin (day .count) (p .task) p ⌝ }
-{
-    cleared(day.count as usize, p)
-}
-
-pub fn over(a: Access, p: Process) -> Process
-    requires { ⌜ a .n ≤ 8 ⌝ }
-    ensures { λ q. ⌜ q ≡ begin (a .n) (p .task) p ⌝ }
-{
-    cleared(a.n, p)
 }
 
 // The number of the turn that ended the first collect.

@@ -227,6 +227,26 @@ module _ {M : Type 1} {𝓤 : URA M} {H : Heap 𝓤} {A : Atoms 𝓤} {K : Type 
         (subst (λ (z : Of D × Of X). (is : Fine D (z .0)) → Here K W E (putAt cs k (holds D (z .0) is)) (‵ (partAt (type-of X) fullShare (z .1) b o) ∷ Γ) (runs C Λ E rest q)) (λ i. (sym (e .0) i, sym (e .1) i)) go is))));
   }
 
+  -- and one that is lent the record which stands there
+  pub calls-on : K → (X : Datum) (b o : ℕ) (x y : Of X) → Fine X x → (g : Callee W C f 1 (params (one-own X) (picked cs os)) D) (s : Of D) →
+      Ready 𝓤 H E os k D →
+      let xs : (α : ℕ) → GName → Denots (Ts (lifetime α) (one-own X)) = λ α δ. (at-place b o δ x, tt) in
+      (links : (α : ℕ) (δ : GName) → Links (lifetime α) (one-own X) (xs α δ) (picked cs os)) →
+      ((α : ℕ) (δ : GName) → ent 𝓤 (emp 𝓤) (Asks g (lifetime α) (args (lifetime α) (one-own X) (xs α δ) (picked cs os)))) →
+      ((α : ℕ) (δ : GName) (r : Of D) (ws : Lasting (lifetime α) (one-own X) (xs α δ) cs os) →
+      ent 𝓤 (Says g (lifetime α) (args (lifetime α) (one-own X) (xs α δ) (picked cs os)) r ws)
+      (fact 𝓤 ((r ≡ s) × (lastsOfRefs (lifetime α) (one-own X) (xs α δ) (picked cs os) (links α δ) ws .0 ≡ y)))) →
+      ((is : Fine D s) → Fine X y → Here K W E (putAt cs k (holds D s is)) (stands X b o y ∷ Γ) (runs C Λ E rest q)) →
+      Here K W E cs (stands X b o x ∷ Γ) (runs C Λ E (seq (call f os (place k [])) rest) q)
+  calls-on t X b o x y x-is g s ok links asks says go = record {
+    seq =
+        move t (1 ∷ []) $ place-in t X b o x x-is $ move t (1 ∷ []) $
+        calls-own t X b o x y g s ok links asks says (λ is. record {
+          seq =
+              move t (1 ∷ []) $ place-out t X b o y (λ y-is. move t (1 ∷ []) $ go is y-is .seq);
+        }) .seq;
+  }
+
 -- ---- beginning and end
 
 module _ {M : Type 1} {𝓤 : URA M} {H : Heap 𝓤} {A : Atoms 𝓤} {K : Type 0} {W : Given 𝓤 H A} {C : Calls 𝓤 H} {Λ : Loops 𝓤 H} {E : List (Ty × ℕ)} {cs : List Cell} {q : Post 𝓤 H} where
