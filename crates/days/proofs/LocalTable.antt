@@ -1,4 +1,5 @@
--- A local table of eight records, of which the first ones are lent as a slice: its cell is taken apart into the row of the first m and
+-- A local table of eight records, of which the first ones are lent as a slice: its cell is taken apart into the row of the
+-- first m and
 -- the row of the rest (`table-out`), and put together again (`table-back`).
 use mathlib.Core.Path.{_≡_, sym, subst, _∙_}
 use Prim.Native.Nat.{ℕ, zero, suc, _+_, _≤_}
@@ -16,7 +17,8 @@ use base.Logic.{ent, sep, emp, id⊢}
 use base.Fml.{ftrue, fsep, fat}
 use prog.Wp.{Heap}
 use ghost.Atoms.{Atoms, sem}
-use types.Kit.{Given, Goal, Item, Seq, Step, step, ‵, _⊛_, _$_, _∵_, !, qed, use0, use1, use2, split, move, drop, fsplit, fjoin, fpick, fpack, feqI, done}
+use types.Kit.{Given, Goal, Item, Seq, Step, step, ‵, _⊛_, _$_, _∵_, !, qed, use0, use1, use2, split, move, drop, fsplit, fjoin}
+use types.Kit.{fpick, fpack, feqI, done}
 use types.Share.{arr-parts}
 use denote.RattleType.{RattleType}
 use denote.Laws.{Is, shows}
@@ -59,7 +61,8 @@ a-table =
 abbrev Fields : RattleType
 Fields = array-field P.the-field 8 .row
 
-each-as : (xs : List Process) (us : List Val) → shadow (each (P.the-field .row .Denot) (P.the-field .row .own) (map (P.the-field .into) xs) us) → shadow (each Process (Row .own) xs us)
+each-as : (xs : List Process) (us : List Val) → shadow (each (P.the-field .row .Denot) (P.the-field .row .own)
+    (map (P.the-field .into) xs) us) → shadow (each Process (Row .own) xs us)
 each-as [] [] s = tt
 each-as [] (u ∷ us) s = absurd s
 each-as (x ∷ xs) [] s = absurd s
@@ -77,7 +80,10 @@ module _ (xs : List Process) (is : Is Table xs (a-table .spell xs ∷ [])) (n : 
   lent-long = let l = few in let e = eight in length-take-le n xs (omega (arith, l, e))
 
   pub lent-room : Room Row (length (take n xs))
-  lent-room = subst (Room Row) (sym lent-long) (lt-of-le-of-lt few (lit< tt), lt-of-le-of-lt (mul-le-mul-right (bytes a-process) few) (lit< tt))
+  lent-room = subst (Room Row) (sym lent-long) (
+    lt-of-le-of-lt few (lit< tt),
+    lt-of-le-of-lt (mul-le-mul-right (bytes a-process) few) (lit< tt),
+  )
 
   pub whole-long : (us : List Process) → length us ≡ n → length (us ++ rest-of n xs) ≡ 8
   whole-long us l =
@@ -86,36 +92,52 @@ module _ (xs : List Process) (is : Is Table xs (a-table .spell xs ∷ [])) (n : 
 
 -- ---- memory
 module _ {M : Type 1} (𝓤 : URA M) (H : Heap 𝓤) (A : Atoms 𝓤) (W : Given 𝓤 H A) where
-  cut : (m : ℕ) (xs : List Process) (b o : ℕ) → ent 𝓤 (sem 𝓤 H A (row Row fullShare xs b o)) (sep 𝓤 (sem 𝓤 H A (row Row fullShare (take m xs) b o)) (sem 𝓤 H A (row Row fullShare (rest-of m xs) b (place (mem Row .size) o m))))
+  cut : (m : ℕ) (xs : List Process) (b o : ℕ) → ent 𝓤 (sem 𝓤 H A (row Row fullShare xs b o))
+      (sep 𝓤 (sem 𝓤 H A (row Row fullShare (take m xs) b o))
+      (sem 𝓤 H A (row Row fullShare (rest-of m xs) b (place (mem Row .size) o m))))
   cut zero xs b o = qed W (‵ (row Row fullShare xs b o) ∷ []) ∵ use0 W (‵ ftrue) (id⊢ 𝓤 (emp 𝓤)) $ done !
   cut (suc m) [] b o = qed W (‵ (row Row fullShare [] b o) ∷ []) ∵ use0 W (‵ ftrue) (id⊢ 𝓤 (emp 𝓤)) $ done !
   cut (suc m) (x ∷ xs) b o =
       qed W (‵ (row Row fullShare (x ∷ xs) b o) ∷ []) ∵ fsplit ! $ move ! (1 ∷ []) $
-      use1 W (‵ (row Row fullShare (take m xs) b (o + mem Row .size)) ⊛ ‵ (row Row fullShare (rest-of m xs) b (place (mem Row .size) (o + mem Row .size) m))) (cut m xs b (o + mem Row .size)) $
+      use1 W (‵ (row Row fullShare (take m xs) b (o + mem Row .size)) ⊛ ‵
+      (row Row fullShare (rest-of m xs) b (place (mem Row .size) (o + mem Row .size) m))) (cut m xs b (o + mem Row .size)) $
       split ! $ move ! (2 ∷ 0 ∷ []) $ fjoin ! $ done !
 
-  joins : (xs zs : List Process) (b o : ℕ) → ent 𝓤 (sep 𝓤 (sem 𝓤 H A (row Row fullShare xs b o)) (sem 𝓤 H A (row Row fullShare zs b (place (mem Row .size) o (length xs))))) (sem 𝓤 H A (row Row fullShare (xs ++ zs) b o))
+  joins : (xs zs : List Process) (b o : ℕ) → ent 𝓤 (sep 𝓤 (sem 𝓤 H A (row Row fullShare xs b o))
+      (sem 𝓤 H A (row Row fullShare zs b (place (mem Row .size) o (length xs))))) (sem 𝓤 H A (row Row fullShare (xs ++ zs) b o))
   joins [] zs b o = qed W (‵ ftrue ∷ ‵ (row Row fullShare zs b o) ∷ []) ∵ drop ! $ done !
   joins (x ∷ xs) zs b o =
-      qed W (‵ (row Row fullShare (x ∷ xs) b o) ∷ ‵ (row Row fullShare zs b (place (mem Row .size) o (length (x ∷ xs)))) ∷ []) ∵ fsplit ! $ move ! (1 ∷ 2 ∷ []) $
-      use2 W (‵ (row Row fullShare (xs ++ zs) b (o + mem Row .size))) (joins xs zs b (o + mem Row .size)) $ move ! (1 ∷ 0 ∷ []) $ done !
+      qed W (‵ (row Row fullShare (x ∷ xs) b o) ∷ ‵ (row Row fullShare zs b (place (mem Row .size) o (length (x ∷ xs)))) ∷ []) ∵
+      fsplit ! $ move ! (1 ∷ 2 ∷ []) $
+      use2 W (‵ (row Row fullShare (xs ++ zs) b (o + mem Row .size))) (joins xs zs b (o + mem Row .size)) $
+      move ! (1 ∷ 0 ∷ []) $ done !
 
-module _ {M : Type 1} {𝓤 : URA M} {H : Heap 𝓤} {A : Atoms 𝓤} {K : Type 0} {W : Given 𝓤 H A} {Γ : List (Item 𝓤)} {G : Goal 𝓤 H} where
+module _ {M : Type 1} {𝓤 : URA M} {H : Heap 𝓤} {A : Atoms 𝓤} {K : Type 0} {W : Given 𝓤 H A} {Γ : List (Item 𝓤)}
+    {G : Goal 𝓤 H} where
   pub table-out : K → (l m : ℕ) (xs : List Process) (v : Val) → Is Table xs (v ∷ [])
-      → Step K W (‵ (row Row fullShare (take m xs) l 0) ∷ ‵ (row Row fullShare (rest-of m xs) l (place (mem Row .size) 0 m)) ∷ Γ) G (‵ (fat fullShare (tyArray P′.mir 8) l 0 v) ∷ Γ) G
+      → Step K W (‵ (row Row fullShare (take m xs) l 0) ∷ ‵ (row Row fullShare (rest-of m xs) l (place (mem Row .size) 0 m)) ∷
+      Γ) G (‵ (fat fullShare (tyArray P′.mir 8) l 0 v) ∷ Γ) G
   unfolding partOf
   table-out t l m xs v is = step (λ s.
-      use1 W (‵ (cellAt fullShare (Table .mir) (v ∷ []) l 0)) (W .laws .at-raw fullShare (tyArray P′.mir 8) l 0 v) $ owned t Table (Is Table) (a-table .makes 𝓤 H A W) xs (v ∷ []) is $ move t (1 ∷ 0 ∷ []) $ fjoin t $
-      fpack t (List Val) (λ vs. fsep (cellAt fullShare (Table .mir) vs l 0) (Table .own xs vs)) (v ∷ []) $ use1 W (‵ (arr-parts (shares Row) 8 .part fullShare xs l 0)) (array-apart 𝓤 H A W Row fullShare tt 8 xs l 0) $ fsplit t $ drop t $
-      use1 W (‵ (row Row fullShare (take m xs) l 0) ⊛ ‵ (row Row fullShare (rest-of m xs) l (place (mem Row .size) 0 m))) (cut 𝓤 H A W m xs l 0) $ split t $ s)
+      use1 W (‵ (cellAt fullShare (Table .mir) (v ∷ []) l 0)) (W .laws .at-raw fullShare (tyArray P′.mir 8) l 0 v) $
+      owned t Table (Is Table) (a-table .makes 𝓤 H A W) xs (v ∷ []) is $ move t (1 ∷ 0 ∷ []) $ fjoin t $
+      fpack t (List Val) (λ vs. fsep (cellAt fullShare (Table .mir) vs l 0) (Table .own xs vs)) (v ∷ []) $
+      use1 W (‵ (arr-parts (shares Row) 8 .part fullShare xs l 0)) (array-apart 𝓤 H A W Row fullShare tt 8 xs l 0) $
+      fsplit t $ drop t $
+      use1 W (‵ (row Row fullShare (take m xs) l 0) ⊛ ‵ (row Row fullShare (rest-of m xs) l (place (mem Row .size) 0 m)))
+      (cut 𝓤 H A W m xs l 0) $ split t $ s)
 
   pub table-back : K → (l : ℕ) (ys zs : List Process) → length (ys ++ zs) ≡ 8
-      → (Is Table (ys ++ zs) (a-table .spell (ys ++ zs) ∷ []) → Seq K W (‵ (fat fullShare (tyArray P′.mir 8) l 0 (a-table .spell (ys ++ zs))) ∷ Γ) G)
+      → (Is Table (ys ++ zs) (a-table .spell (ys ++ zs) ∷ []) →
+      Seq K W (‵ (fat fullShare (tyArray P′.mir 8) l 0 (a-table .spell (ys ++ zs))) ∷ Γ) G)
       → Seq K W (‵ (row Row fullShare ys l 0) ∷ ‵ (row Row fullShare zs l (place (mem Row .size) 0 (length ys))) ∷ Γ) G
   unfolding partOf
   table-back t l ys zs e k =
       use2 W (‵ (row Row fullShare (ys ++ zs) l 0)) (joins 𝓤 H A W ys zs l 0) $ feqI t ℕ (length (ys ++ zs)) 8 e $ fjoin t $
-      use1 W (‵ (partAt Table fullShare (ys ++ zs) l 0)) (array-whole 𝓤 H A W Row fullShare 8 (ys ++ zs) l 0) $ fpick t (λ vs. fsplit t $
-      spelt t Table (Is Table) (shows 𝓤 H A Table) (λ us. a-table .spell us ∷ []) (a-table .tells) fullShare (ys ++ zs) vs l 0 $ move t (1 ∷ []) $
+      use1 W (‵ (partAt Table fullShare (ys ++ zs) l 0)) (array-whole 𝓤 H A W Row fullShare 8 (ys ++ zs) l 0) $
+      fpick t (λ vs. fsplit t $
+      spelt t Table (Is Table) (shows 𝓤 H A Table) (λ us. a-table .spell us ∷ []) (a-table .tells) fullShare (ys ++ zs) vs l 0 $
+      move t (1 ∷ []) $
       facts t Table (Is Table) (shows 𝓤 H A Table) (ys ++ zs) (a-table .spell (ys ++ zs) ∷ []) (λ is.
-      use1 W (‵ (fat fullShare (tyArray P′.mir 8) l 0 (a-table .spell (ys ++ zs)))) (W .laws .raw-at fullShare (tyArray P′.mir 8) l 0 (a-table .spell (ys ++ zs))) $ k is))
+      use1 W (‵ (fat fullShare (tyArray P′.mir 8) l 0 (a-table .spell (ys ++ zs))))
+      (W .laws .raw-at fullShare (tyArray P′.mir 8) l 0 (a-table .spell (ys ++ zs))) $ k is))

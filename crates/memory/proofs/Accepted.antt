@@ -1,10 +1,10 @@
 -- What the functions over the table find out is what the day's definitions say: a request that is refused, one that passes every
 -- check, and what an accepted call or turn leaves.
-use Prim.Native.Nat.{ℕ, _+_, _-_, _≤_, _<_}
+use Prim.Native.Nat.{ℕ, _-_, _≤_, _<_}
 use native.Mathlib.Omega.{arith}
-use mathlib.Core.Path.{_≡_, refl, sym, ap, subst, _∙_}
+use mathlib.Core.Path.{_≡_, refl, sym, ap, _∙_}
 use mathlib.Core.Bool.{true, false, not, false≢true}
-use mathlib.Core.List.{List, [], _∷_, map, foldl}
+use mathlib.Core.List.{List, [], map, foldl}
 use mathlib.Core.Option.{Option, none, some}
 use lib.Dec.{T}
 use lib.ListN.{length, getD, set, replicate, length-replicate}
@@ -12,7 +12,7 @@ use Rattle.snapshot.specs.Lists.{someOf}
 use Rattle.snapshot.specs.Refusals.{firstCause}
 use Rattle.snapshot.specs.Requests.{numberIn}
 use Rattle.snapshot.specs.Demand.{Result, step}
-use Rattle.snapshot.specs.Days.{State, Item, openFor, pageLent, processOf, refusal, openedBy, advance, calledBy, turnBy, accept}
+use Rattle.snapshot.specs.Days.{State, Item, openFor, pageLent, processOf, openedBy, advance, calledBy, accept}
 use Rattle.snapshot.specs.Days as Days
 use Rattle.snapshot.specs.declared.Day.{Day}
 use Rattle.snapshot.specs.declared.Outcome.{Outcome}
@@ -25,7 +25,7 @@ use Rattle.admission.specs.Requests.{itemOf, pageAfter, isOpening, isCall}
 use Rattle.admission.specs.Checks.{isRefusal, isShort, firstCauses, lastCauses}
 use Rattle.admission.specs.Outcomes.{refusedOutcome, acceptedOutcome, openedOutcome}
 use Rattle.admission.specs.declared.Survey.{Survey}
-use Rattle.admission.proofs.Checked.{refused-some, passed-none, opening-checks, someBad, Suited, Accepted, accepted-item, accepted-turn}
+use Rattle.admission.proofs.Checked.{refused-some, someBad, Suited, Accepted, accepted-item, accepted-turn}
 use Rattle.admission.proofs.Checked.{first-refuses, first-passes}
 use Rattle.unbounded.specs.declared.Register.{Register}
 use Rattle.unbounded.specs.declared.Process.{Process}
@@ -36,8 +36,8 @@ use Rattle.unbounded.specs.Processes.{noProcess, zeroProcess, isIdle, begin}
 use Rattle.unbounded.specs.Days.{figure3, mostReads, unsound, stepped}
 use Rattle.unbounded_turns.specs.declared.Access.{Access}
 use Rattle.unbounded_turns.specs.declared.Find.{Find}
-use Rattle.unbounded_turns.specs.Accesses.{AllowsTurn, isReady, accessOf}
-use Rattle.unbounded_turns.specs.Steps.{taskFor, nothingFound, stateBy, answerBy, pageBy}
+use Rattle.unbounded_turns.specs.Accesses.{isReady, accessOf}
+use Rattle.unbounded_turns.specs.Steps.{taskFor, stateBy, answerBy, pageBy}
 use Rattle.unbounded_turns.specs.Surveys.{surveyOf, surveyedBy}
 use Rattle.unbounded_turns.proofs.Steps.{Accessed, a-read, a-write, turn-is-steps}
 use Rattle.unbounded_turns.proofs.Unsound.{survey-is-bad, reads-up-to-8, sound-has-room}
@@ -134,7 +134,8 @@ module _ (day : Day) (ps : List Process) where
     abbrev first : Option Refusal
     first = firstCause (firstCauses day (length ps) (isShort day words x) (surveyed .bad) (numberIn x))
 
-    pub plan-refuses : (c : Option Refusal) → c ≡ first → T (isRefusal c) → (page : List ℕ) → length page ≡ words → c ≡ refusalIn s (itemOf page x)
+    pub plan-refuses : (c : Option Refusal) → c ≡ first → T (isRefusal c) → (page : List ℕ) → length page ≡ words →
+        c ≡ refusalIn s (itemOf page x)
     plan-refuses c e h page q =
         let k = refused-some c h in
         k .1
@@ -143,7 +144,8 @@ module _ (day : Day) (ps : List Process) where
 
     module _ (passed : first ≡ none) where
       passes : (page : List ℕ) → length page ≡ words →
-          (refusalIn s (itemOf page x) ≡ firstCause (lastCauses (day .event) x (isIdle (processOf (figure3 ascending) s (numberIn x) .task))))
+          (refusalIn s (itemOf page x) ≡ firstCause (lastCauses (day .event) x
+          (isIdle (processOf (figure3 ascending) s (numberIn x) .task))))
           × Suited (figure3 ascending) s page x
       passes page q =
           first-passes (figure3 ascending) (λ n. refl) s page x item (surveyed .bad) seen
@@ -160,9 +162,11 @@ module _ (day : Day) (ps : List Process) where
       plan-inside = let n = suits .among in let l = suits .size in omega arith
 
       pub plan-last : (page : List ℕ) → length page ≡ words →
-          firstCause (lastCauses (surveyed .event) x (isIdle (getD ps (numberIn x - 1) noProcess .task))) ≡ refusalIn s (itemOf page x)
+          firstCause (lastCauses (surveyed .event) x (isIdle (getD ps (numberIn x - 1) noProcess .task))) ≡ refusalIn s
+          (itemOf page x)
       plan-last page q =
-          ap (λ v. firstCause (lastCauses (v .event) x (isIdle (getD ps (numberIn x - 1) noProcess .task)))) (survey-is-bad day ps)
+          ap (λ v. firstCause (lastCauses (v .event) x (isIdle (getD ps (numberIn x - 1) noProcess .task))))
+          (survey-is-bad day ps)
           ∙ sym (passes page q .0)
 
   -- ---- what an accepted request leaves
@@ -175,7 +179,8 @@ module _ (day : Day) (ps : List Process) where
     admits-inside = let n = admits .among in let l = admits .size in omega arith
 
   pub called-leaves : (page : List ℕ) (x : Request) → T (isCall x) → let i = numberIn x - 1 in
-      Leaves (acceptedIn s (itemOf page x)) (acceptedOutcome day Called) (set ps i (begin (day .count) (taskFor x) (getD ps i noProcess))) []
+      Leaves (acceptedIn s (itemOf page x)) (acceptedOutcome day Called)
+      (set ps i (begin (day .count) (taskFor x) (getD ps i noProcess))) []
   unfolding accept calledBy advance
   called-leaves page (Open k) c = absurd c
   called-leaves page (Update d w) c = (refl, refl, refl)
@@ -203,7 +208,8 @@ module _ (day : Day) (ps : List Process) where
       let e = sym (turn-is-steps day ps d page h) in
       (ap (λ z. acceptedOutcome day (z .answer)) e, ap (λ z. set ps (d - 1) (z .state)) e, ap (λ z. z .page) e)
 
-  module _ (page : List ℕ) (x : Request) (item : T (not (isOpening x))) (turns : T (not (isCall x))) (accepted : refusalIn s (itemOf page x) ≡ none) where
+  module _ (page : List ℕ) (x : Request) (item : T (not (isOpening x))) (turns : T (not (isCall x)))
+      (accepted : refusalIn s (itemOf page x) ≡ none) where
     abbrev i : ℕ
     i = numberIn x - 1
 
@@ -243,5 +249,6 @@ module _ (day : Day) (ps : List Process) where
 
     pub read-leaves : isReady (p .task) ≡ false → let f = foundAt day ps i (p .task) in
         Leaves (acceptedIn s (itemOf page x)) (acceptedOutcome day (answerBy f (p .task)))
-        (set ps i (stateBy (accessOf day (p .task)) (readAt day ps (p .task)) p f (p .task))) (pageBy (accessOf day (p .task)) f (p .task) page)
+        (set ps i (stateBy (accessOf day (p .task)) (readAt day ps (p .task)) p f (p .task)))
+        (pageBy (accessOf day (p .task)) f (p .task) page)
     read-leaves q = turned-leaves page x item turns (a-read busy q)

@@ -10,7 +10,8 @@ use types.Kit.{Given}
 use denote.Exit.{unchanged}
 use denote.RattleType.{RattleType}
 use denote.Laws.{Is, Tells, Makes, Lawful, Copy}
-use denote.Plain.{uint-tells, uint-makes, uint-lawful, uint-copy, bool-tells, bool-makes, bool-lawful, bool-copy, nothing-tells, nothing-makes, nothing-lawful, nothing-copy}
+use denote.Plain.{uint-tells, uint-makes, uint-lawful, uint-copy, bool-tells, bool-makes, bool-lawful, bool-copy, nothing-tells}
+use denote.Plain.{nothing-makes, nothing-lawful, nothing-copy}
 use denote.Builtin.{usize, u32, bool, unit}
 
 -- a type whose one MIR type is τ, so that what is said of its cells computes for any type

@@ -4,7 +4,8 @@ use mathlib.Core.Path.{_≡_, refl}
 use mathlib.Core.Bool.{not}
 use mathlib.Core.List.{List, [], _∷_}
 use lib.Dec.{T}
-use Rattle.walks.proofs.Walking.{ !, Param, value, lent, a-u32, a-bool, thin, _▹_, begins-two, lends-again, gets, if-leaves, calls-two, ends-two}
+use Rattle.walks.proofs.Walking.{ !, Param, value, lent, a-u32, a-bool, thin, _▹_, begins-two, lends-again, gets, if-leaves}
+use Rattle.walks.proofs.Walking.{calls-two, ends-two}
 use Rattle.walks.proofs.Walking.{callee, nothing-asked, asks-nothing, three-given, three-said, id⊢}
 use Rattle.snapshot.specs.declared.Day.{Day}
 use Rattle.snapshot.specs.declared.Outcome.{Outcome}
@@ -58,7 +59,8 @@ asked-spec 𝓤 H 𝓜 𝓖 𝓡 =
     (unasked.clauses 𝓤 H (𝓖 .A) (𝓜 .mem) (𝓡 .run)) (λ κs a. tt) (unasked-met.met 𝓤 H 𝓜 𝓖 𝓡) in
     let request-is = callee 𝓤 H 𝓜 𝓖 𝓡 code.env (value a-reading ∷ []) a-request code.calls-days·request-of
     (request.clauses 𝓤 H (𝓖 .A) (𝓜 .mem) (𝓡 .run)) (λ κs a. tt) (request-met.met 𝓤 H 𝓜 𝓖 𝓡) in
-    let steps-is = callee 𝓤 H 𝓜 𝓖 𝓡 code.env (value a-day ∷ lent 0 tt a-process ∷ value a-request ∷ lent 1 tt a-u32 ∷ []) an-outcome code.calls-memory·table·step
+    let steps-is = callee 𝓤 H 𝓜 𝓖 𝓡 code.env (value a-day ∷ lent 0 tt a-process ∷ value a-request ∷ lent 1 tt a-u32 ∷ [])
+    an-outcome code.calls-memory·table·step
     (steps.clauses 𝓤 H (𝓖 .A) (𝓜 .mem) (𝓡 .run)) (λ κs a. tt) (steps-met.met 𝓤 H 𝓜 𝓖 𝓡) in
     thin ps an-outcome 𝓤 H 𝓜 𝓖 𝓡 code.env c _ _ #f (code.unfolded 𝓤 H 𝓜 𝓡) (λ κs qs a h are bs.
     let day = a .0 in
@@ -74,7 +76,8 @@ asked-spec 𝓤 H 𝓜 𝓖 𝓡 =
     let all = none-asked day (x .now) (y .now) z held in
     gets ! unasked-is (unaskedOf day) ((tt, tt, refl), tt) (asks-nothing 𝓤) (λ q ws. id⊢ 𝓤 _) (λ is.
     ends-two ! ps an-outcome c a h (unaskedOf day) is a-process x (x .now) room refl a-u32 y (y .now) room′ refl
-    (tt, (x .now, (tt, (y .now, tt)))) (refl, refl, tt, refl) (tt, (refl, (tt, (refl, tt)))) (three-given 𝓤 (all .0) (all .1) (all .2))))
+    (tt, (x .now, (tt, (y .now, tt)))) (refl, refl, tt, refl) (tt, (refl, (tt, (refl, tt))))
+    (three-given 𝓤 (all .0) (all .1) (all .2))))
     (λ failed.
     let r = steppedBy day (x .now) (y .now) (requestOf z) in
     let ws = pageAfter (y .now) r (requestOf z) in
@@ -82,7 +85,9 @@ asked-spec 𝓤 H 𝓜 𝓖 𝓡 =
     lends-again ! refl refl refl (tt, tt) ▹
     gets ! request-is (requestOf z) ((tt, tt, refl), tt) (asks-nothing 𝓤) (λ q ws. id⊢ 𝓤 _) (λ _.
     lends-again ! refl refl refl (tt, tt) ▹
-    calls-two ! a-process (x .ptr .0) (x .ptr .1) (x .now) (r .state .table) room a-u32 (y .ptr .0) (y .ptr .1) (y .now) ws room′ steps-is (outcomeOf r)
+    calls-two ! a-process (x .ptr .0) (x .ptr .1) (x .now) (r .state .table) room a-u32 (y .ptr .0) (y .ptr .1)
+    (y .now) ws room′ steps-is (outcomeOf r)
     (tt, tt, refl) (λ α β δ ε. (refl, (refl, tt))) (λ α β δ ε. asks-nothing 𝓤) (λ α β δ ε q ws. three-said 𝓤) (λ is l l′.
     ends-two ! ps an-outcome c a h (outcomeOf r) is a-process x (r .state .table) room l a-u32 y ws room′ l′
-    (tt, (r .state .table, (tt, (ws, tt)))) (refl, refl, tt, refl) (tt, (l, (tt, (l′, tt)))) (three-given 𝓤 (all .0) (all .1) (all .2))))))))
+    (tt, (r .state .table, (tt, (ws, tt)))) (refl, refl, tt, refl) (tt, (l, (tt, (l′, tt))))
+    (three-given 𝓤 (all .0) (all .1) (all .2))))))))

@@ -3,7 +3,8 @@ use Prim.Native.Nat.{_≤_, _<_}
 use mathlib.Core.Path.{refl}
 use mathlib.Core.List.{List, [], _∷_}
 use lib.ListN.{length, getD, set, length-set}
-use Rattle.walks.proofs.Walking.{ !, Param, value, lent, own, a-usize, a-unit, thin, _▹_, begins-lent, offset-fits, finds-element, lends-element}
+use Rattle.walks.proofs.Walking.{ !, Param, value, lent, own, a-usize, a-unit, thin, _▹_, begins-lent, offset-fits}
+use Rattle.walks.proofs.Walking.{finds-element, lends-element}
 use Rattle.walks.proofs.Walking.{gets, calls-element, unit-stored, ends-lent, callee, asks-nothing, given, unit-said, id⊢}
 use Rattle.unbounded.specs.Processes.{noProcess, begin}
 use Rattle.memory.proofs.Types.{a-process, a-task, a-day}
@@ -25,7 +26,8 @@ begin-at-spec 𝓤 H 𝓜 𝓖 𝓡 =
     let c = f.clauses 𝓤 H (𝓖 .A) (𝓜 .mem) (𝓡 .run) in
     let count-is = callee 𝓤 H 𝓜 𝓖 𝓡 code.env (value a-day ∷ []) a-usize code.calls-unbounded-turns·accesses·count-of
     (count.clauses 𝓤 H (𝓖 .A) (𝓜 .mem) (𝓡 .run)) (λ κs a. tt) (count-met.met 𝓤 H 𝓜 𝓖 𝓡) in
-    let begin-own-is = callee 𝓤 H 𝓜 𝓖 𝓡 code.env (own 0 tt a-process ∷ value a-usize ∷ value a-task ∷ []) a-unit code.calls-memory·elements·begin-own
+    let begin-own-is = callee 𝓤 H 𝓜 𝓖 𝓡 code.env (own 0 tt a-process ∷ value a-usize ∷ value a-task ∷ []) a-unit
+    code.calls-memory·elements·begin-own
     (begin-own.clauses 𝓤 H (𝓖 .A) (𝓜 .mem) (𝓡 .run)) (λ κs a. tt) (begin-own-met.met 𝓤 H 𝓜 𝓖 𝓡) in
     thin ps a-unit 𝓤 H 𝓜 𝓖 𝓡 code.env c _ _ #f (code.unfolded 𝓤 H 𝓜 𝓡) (λ κs qs a h are bs.
     let x = a .0 in
@@ -33,11 +35,13 @@ begin-at-spec 𝓤 H 𝓜 𝓖 𝓡 =
     let n = a .1 .1 .0 .count in
     let y = begin n (a .1 .1 .1 .0) (getD (x .now) i noProcess) in
     begins-lent ! a-process x ((i < length (x .now)) × (n ≤ 8)) (id⊢ 𝓤 _) (λ asked.
-    finds-element ! a-process (offset-fits a-process i (length (x .now)) (asked .0) (are .0 .0 .1)) tt refl refl refl refl (tt, refl, refl) ▹
+    finds-element ! a-process (offset-fits a-process i (length (x .now)) (asked .0) (are .0 .0 .1)) tt refl refl refl refl
+    (tt, refl, refl) ▹
     lends-element ! a-process refl (tt, tt) ▹
     gets ! count-is n ((tt, tt, refl), tt) (asks-nothing 𝓤) (λ z ws. id⊢ 𝓤 _) (λ _.
     calls-element ! a-process (x .ptr .0) (x .ptr .1) (x .now) i noProcess y (asked .0) begin-own-is tt (tt, tt, refl)
     (λ α δ. (refl, tt)) (λ α δ. given 𝓤 (asked .1)) (λ α δ r ws. unit-said 𝓤) (λ is.
     unit-stored ! (tt, refl) ▹
     ends-lent ! ps a-unit c a h tt refl a-process x (set (x .now) i y) (are .0 .0 .1) (length-set (x .now) i y)
-    (set (x .now) i y, (tt, (tt, (tt, tt)))) (refl, refl, tt, refl) (length-set (x .now) i y, (tt, (tt, (tt, tt)))) (given 𝓤 refl)))))
+    (set (x .now) i y, (tt, (tt, (tt, tt)))) (refl, refl, tt, refl) (length-set (x .now) i y, (tt, (tt, (tt, tt))))
+    (given 𝓤 refl)))))

@@ -2,7 +2,8 @@
 use Prim.Native.Nat.{_≤_}
 use mathlib.Core.Path.{refl}
 use mathlib.Core.List.{List, [], _∷_}
-use Rattle.walks.proofs.Walking.{ !, Param, value, own, a-usize, a-unit, thin, _▹_, begins-own, reads-whole, gets, stores-whole, stores-field}
+use Rattle.walks.proofs.Walking.{ !, Param, value, own, a-usize, a-unit, thin, _▹_, begins-own, reads-whole, gets, stores-whole}
+use Rattle.walks.proofs.Walking.{stores-field}
 use Rattle.walks.proofs.Walking.{unit-stored, ends-own, callee, given, id⊢}
 use Rattle.unbounded.specs.Processes.{begin}
 use Rattle.unbounded_turns.proofs.Steps.{begin-then-task}
@@ -21,7 +22,8 @@ pub begin-own-spec : {M : Type 1} → stated.statement M
 unfolding code.routine
 begin-own-spec 𝓤 H 𝓜 𝓖 𝓡 =
     let c = f.clauses 𝓤 H (𝓖 .A) (𝓜 .mem) (𝓡 .run) in
-    let cleared-is = callee 𝓤 H 𝓜 𝓖 𝓡 code.env (value a-usize ∷ value a-process ∷ []) a-process code.calls-unbounded-turns·records·cleared
+    let cleared-is = callee 𝓤 H 𝓜 𝓖 𝓡 code.env (value a-usize ∷ value a-process ∷ []) a-process
+    code.calls-unbounded-turns·records·cleared
     (cleared.clauses 𝓤 H (𝓖 .A) (𝓜 .mem) (𝓡 .run)) (λ κs a. tt) (cleared-met.met 𝓤 H 𝓜 𝓖 𝓡) in
     thin ps a-unit 𝓤 H 𝓜 𝓖 𝓡 code.env c _ _ #f (code.unfolded 𝓤 H 𝓜 𝓡) (λ κs qs a h are bs.
     let x = a .0 in

@@ -15,8 +15,10 @@ pub register-at-spec : {M : Type 1} → stated.statement M
 unfolding code.routine
 register-at-spec 𝓤 H 𝓜 𝓖 𝓡 =
     let c = f.clauses 𝓤 H (𝓖 .A) (𝓜 .mem) (𝓡 .run) in
-    let register-is = callee 𝓤 H 𝓜 𝓖 𝓡 code.env (element-callee a-process a-register) a-register code.calls-unbounded-turns·records·register-of
+    let register-is = callee 𝓤 H 𝓜 𝓖 𝓡 code.env (element-callee a-process a-register) a-register
+    code.calls-unbounded-turns·records·register-of
     (register.clauses 𝓤 H (𝓖 .A) (𝓜 .mem) (𝓡 .run)) (λ κs a. tt) (register-met.met 𝓤 H 𝓜 𝓖 𝓡) in
     thin (element-params a-process a-register) a-register 𝓤 H 𝓜 𝓖 𝓡 code.env c _ _ #f (code.unfolded 𝓤 H 𝓜 𝓡)
-    (element-read a-process a-register noProcess (λ p. p .register) tt 𝓤 H 𝓜 𝓖 𝓡 code.env _ register-is (λ p. asks-nothing 𝓤) (λ p r ws. id⊢ 𝓤 _) c
+    (element-read a-process a-register noProcess (λ p. p .register) tt 𝓤 H 𝓜 𝓖 𝓡 code.env _ register-is (λ p. asks-nothing 𝓤)
+    (λ p r ws. id⊢ 𝓤 _) c
     (λ κs a h. id⊢ 𝓤 _) (λ κs a h. given 𝓤 refl))

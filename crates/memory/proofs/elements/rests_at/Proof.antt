@@ -18,5 +18,6 @@ rests-at-spec 𝓤 H 𝓜 𝓖 𝓡 =
     let rests-is = callee 𝓤 H 𝓜 𝓖 𝓡 code.env (element-callee a-process a-bool) a-bool code.calls-unbounded-turns·records·rests
     (rests.clauses 𝓤 H (𝓖 .A) (𝓜 .mem) (𝓡 .run)) (λ κs a. tt) (rests-met.met 𝓤 H 𝓜 𝓖 𝓡) in
     thin (element-params a-process a-bool) a-bool 𝓤 H 𝓜 𝓖 𝓡 code.env c _ _ #f (code.unfolded 𝓤 H 𝓜 𝓡)
-    (element-read a-process a-bool noProcess (λ p. isIdle (p .task)) tt 𝓤 H 𝓜 𝓖 𝓡 code.env _ rests-is (λ p. asks-nothing 𝓤) (λ p r ws. id⊢ 𝓤 _) c
+    (element-read a-process a-bool noProcess (λ p. isIdle (p .task)) tt 𝓤 H 𝓜 𝓖 𝓡 code.env _ rests-is (λ p. asks-nothing 𝓤)
+    (λ p r ws. id⊢ 𝓤 _) c
     (λ κs a h. id⊢ 𝓤 _) (λ κs a h. given 𝓤 refl))

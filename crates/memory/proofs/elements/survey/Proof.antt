@@ -16,8 +16,10 @@ pub survey-spec : {M : Type 1} → stated.statement M
 unfolding code.routine
 survey-spec 𝓤 H 𝓜 𝓖 𝓡 =
     let c = f.clauses 𝓤 H (𝓖 .A) (𝓜 .mem) (𝓡 .run) in
-    let surveyed-is = callee 𝓤 H 𝓜 𝓖 𝓡 code.env (fold-callee a-process a-survey) a-survey code.calls-unbounded-turns·surveys·surveyed
+    let surveyed-is = callee 𝓤 H 𝓜 𝓖 𝓡 code.env (fold-callee a-process a-survey) a-survey
+    code.calls-unbounded-turns·surveys·surveyed
     (surveyed.clauses 𝓤 H (𝓖 .A) (𝓜 .mem) (𝓡 .run)) (λ κs a. tt) (surveyed-met.met 𝓤 H 𝓜 𝓖 𝓡) in
     thin (fold-params a-process a-survey) a-survey 𝓤 H 𝓜 𝓖 𝓡 code.env c _ _ #f (code.unfolded 𝓤 H 𝓜 𝓡)
-    (folds a-process a-survey noProcess surveyedBy tt 𝓤 H 𝓜 𝓖 𝓡 code.env _ surveyed-is (λ v x. asks-nothing 𝓤) (λ v x r ws. id⊢ 𝓤 _) c
+    (folds a-process a-survey noProcess surveyedBy tt 𝓤 H 𝓜 𝓖 𝓡 code.env _ surveyed-is (λ v x. asks-nothing 𝓤)
+    (λ v x r ws. id⊢ 𝓤 _) c
     (λ κs a h. given 𝓤 refl))

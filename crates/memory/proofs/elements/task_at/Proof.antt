@@ -18,5 +18,6 @@ task-at-spec 𝓤 H 𝓜 𝓖 𝓡 =
     let task-is = callee 𝓤 H 𝓜 𝓖 𝓡 code.env (element-callee a-process a-task) a-task code.calls-unbounded-turns·records·task-of
     (task.clauses 𝓤 H (𝓖 .A) (𝓜 .mem) (𝓡 .run)) (λ κs a. tt) (task-met.met 𝓤 H 𝓜 𝓖 𝓡) in
     thin (element-params a-process a-task) a-task 𝓤 H 𝓜 𝓖 𝓡 code.env c _ _ #f (code.unfolded 𝓤 H 𝓜 𝓡)
-    (element-read a-process a-task noProcess (λ p. p .task) tt 𝓤 H 𝓜 𝓖 𝓡 code.env _ task-is (λ p. asks-nothing 𝓤) (λ p r ws. id⊢ 𝓤 _) c
+    (element-read a-process a-task noProcess (λ p. p .task) tt 𝓤 H 𝓜 𝓖 𝓡 code.env _ task-is (λ p. asks-nothing 𝓤)
+    (λ p r ws. id⊢ 𝓤 _) c
     (λ κs a h. id⊢ 𝓤 _) (λ κs a h. given 𝓤 refl))

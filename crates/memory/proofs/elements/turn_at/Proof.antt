@@ -3,7 +3,8 @@ use Prim.Native.Nat.{_<_}
 use mathlib.Core.Path.{refl}
 use mathlib.Core.List.{List, [], _∷_}
 use lib.ListN.{length, getD, set, length-set}
-use Rattle.walks.proofs.Walking.{ !, Param, value, lent, own, a-usize, a-unit, thin, _▹_, begins-lent, offset-fits, finds-element, lends-element}
+use Rattle.walks.proofs.Walking.{ !, Param, value, lent, own, a-usize, a-unit, thin, _▹_, begins-lent, offset-fits}
+use Rattle.walks.proofs.Walking.{finds-element, lends-element}
 use Rattle.walks.proofs.Walking.{calls-element, unit-stored, ends-lent, callee, given, unit-said, id⊢}
 use Rattle.unbounded.specs.Processes.{noProcess}
 use Rattle.unbounded_turns.specs.Steps.{stateBy}
@@ -23,7 +24,8 @@ pub turn-at-spec : {M : Type 1} → stated.statement M
 unfolding code.routine
 turn-at-spec 𝓤 H 𝓜 𝓖 𝓡 =
     let c = f.clauses 𝓤 H (𝓖 .A) (𝓜 .mem) (𝓡 .run) in
-    let turn-own-is = callee 𝓤 H 𝓜 𝓖 𝓡 code.env (own 0 tt a-process ∷ value an-access ∷ value a-register ∷ value a-find ∷ []) a-unit code.calls-memory·elements·turn-own
+    let turn-own-is = callee 𝓤 H 𝓜 𝓖 𝓡 code.env (own 0 tt a-process ∷ value an-access ∷ value a-register ∷ value a-find ∷ [])
+    a-unit code.calls-memory·elements·turn-own
     (turn-own.clauses 𝓤 H (𝓖 .A) (𝓜 .mem) (𝓡 .run)) (λ κs a. tt) (turn-own-met.met 𝓤 H 𝓜 𝓖 𝓡) in
     thin ps a-unit 𝓤 H 𝓜 𝓖 𝓡 code.env c _ _ #f (code.unfolded 𝓤 H 𝓜 𝓡) (λ κs qs a h are bs.
     let x = a .0 in
@@ -33,10 +35,12 @@ turn-at-spec 𝓤 H 𝓜 𝓖 𝓡 =
     let f = a .1 .1 .1 .1 .0 in
     let y = stateBy g (a .1 .1 .1 .0) p f (p .task) in
     begins-lent ! a-process x ((i < length (x .now)) × Turning g f p) (id⊢ 𝓤 _) (λ asked.
-    finds-element ! a-process (offset-fits a-process i (length (x .now)) (asked .0) (are .0 .0 .1)) tt refl refl refl refl (tt, refl, refl) ▹
+    finds-element ! a-process (offset-fits a-process i (length (x .now)) (asked .0) (are .0 .0 .1)) tt refl refl refl refl
+    (tt, refl, refl) ▹
     lends-element ! a-process refl (tt, tt) ▹
     calls-element ! a-process (x .ptr .0) (x .ptr .1) (x .now) i noProcess y (asked .0) turn-own-is tt (tt, tt, refl)
     (λ α δ. (refl, tt)) (λ α δ. given 𝓤 (asked .1)) (λ α δ r ws. unit-said 𝓤) (λ is.
     unit-stored ! (tt, refl) ▹
     ends-lent ! ps a-unit c a h tt refl a-process x (set (x .now) i y) (are .0 .0 .1) (length-set (x .now) i y)
-    (set (x .now) i y, (tt, (tt, (tt, (tt, tt))))) (refl, refl, tt, refl) (length-set (x .now) i y, (tt, (tt, (tt, (tt, tt))))) (given 𝓤 refl))))
+    (set (x .now) i y, (tt, (tt, (tt, (tt, tt))))) (refl, refl, tt, refl) (length-set (x .now) i y, (tt, (tt, (tt, (tt, tt)))))
+    (given 𝓤 refl))))

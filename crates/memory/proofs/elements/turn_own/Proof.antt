@@ -1,8 +1,11 @@
--- A turn that ends its task stores the register, then begins none; any other stores the record as the read leaves it, then the task.
+-- A turn that ends its task stores the register, then begins none; any other stores the record as the read leaves it, then the
+-- task.
 use mathlib.Core.Path.{refl}
 use mathlib.Core.List.{List, [], _∷_}
-use Rattle.walks.proofs.Walking.{ !, Param, value, own, a-usize, a-bool, a-unit, thin, _▹_, begins-own, reads-whole, reads-field, gets, if-leaves}
-use Rattle.walks.proofs.Walking.{stores-whole, stores-field, lends-element, calls-on, unit-stored, ends-own, callee, given, asks-nothing, unit-said, id⊢}
+use Rattle.walks.proofs.Walking.{ !, Param, value, own, a-usize, a-bool, a-unit, thin, _▹_, begins-own, reads-whole, reads-field}
+use Rattle.walks.proofs.Walking.{gets, if-leaves}
+use Rattle.walks.proofs.Walking.{stores-whole, stores-field, lends-element, calls-on, unit-stored, ends-own, callee, given}
+use Rattle.walks.proofs.Walking.{asks-nothing, unit-said, id⊢}
 use lib.Ieee.Bits.{is-true, is-false}
 use Rattle.unbounded.specs.Processes.{begin}
 use Rattle.unbounded.specs.declared.Task.the-variants.{Idle}
@@ -39,15 +42,18 @@ turn-own-spec 𝓤 H 𝓜 𝓖 𝓡 =
     let c = f.clauses 𝓤 H (𝓖 .A) (𝓜 .mem) (𝓡 .run) in
     let ends-is = callee 𝓤 H 𝓜 𝓖 𝓡 code.env (value a-task ∷ value a-find ∷ []) a-bool code.calls-unbounded-turns·tasks·ends
     (ends.clauses 𝓤 H (𝓖 .A) (𝓜 .mem) (𝓡 .run)) (λ κs a. tt) (ends-met.met 𝓤 H 𝓜 𝓖 𝓡) in
-    let written-is = callee 𝓤 H 𝓜 𝓖 𝓡 code.env (value an-access ∷ value a-process ∷ []) a-register code.calls-unbounded-turns·records·written
+    let written-is = callee 𝓤 H 𝓜 𝓖 𝓡 code.env (value an-access ∷ value a-process ∷ []) a-register
+    code.calls-unbounded-turns·records·written
     (written.clauses 𝓤 H (𝓖 .A) (𝓜 .mem) (𝓡 .run)) (λ κs a. tt) (written-met.met 𝓤 H 𝓜 𝓖 𝓡) in
     let count-is = callee 𝓤 H 𝓜 𝓖 𝓡 code.env (value an-access ∷ []) a-usize code.calls-unbounded-turns·accesses·count-in
     (count.clauses 𝓤 H (𝓖 .A) (𝓜 .mem) (𝓡 .run)) (λ κs a. tt) (count-met.met 𝓤 H 𝓜 𝓖 𝓡) in
-    let begin-own-is = callee 𝓤 H 𝓜 𝓖 𝓡 code.env (own 0 tt a-process ∷ value a-usize ∷ value a-task ∷ []) a-unit code.calls-memory·elements·begin-own
+    let begin-own-is = callee 𝓤 H 𝓜 𝓖 𝓡 code.env (own 0 tt a-process ∷ value a-usize ∷ value a-task ∷ []) a-unit
+    code.calls-memory·elements·begin-own
     (begin-own.clauses 𝓤 H (𝓖 .A) (𝓜 .mem) (𝓡 .run)) (λ κs a. tt) (begin-own-met.met 𝓤 H 𝓜 𝓖 𝓡) in
     let idle-is = callee 𝓤 H 𝓜 𝓖 𝓡 code.env [] a-task code.calls-unbounded-turns·tasks·idle
     (idle.clauses 𝓤 H (𝓖 .A) (𝓜 .mem) (𝓡 .run)) (λ κs a. tt) (idle-met.met 𝓤 H 𝓜 𝓖 𝓡) in
-    let read-is = callee 𝓤 H 𝓜 𝓖 𝓡 code.env (value an-access ∷ value a-register ∷ value a-task ∷ value a-find ∷ value a-process ∷ []) a-process code.calls-unbounded-turns·records·read
+    let read-is = callee 𝓤 H 𝓜 𝓖 𝓡 code.env (value an-access ∷ value a-register ∷ value a-task ∷ value a-find ∷ value a-process
+    ∷ []) a-process code.calls-unbounded-turns·records·read
     (read.clauses 𝓤 H (𝓖 .A) (𝓜 .mem) (𝓡 .run)) (λ κs a. tt) (read-met.met 𝓤 H 𝓜 𝓖 𝓡) in
     let after-is = callee 𝓤 H 𝓜 𝓖 𝓡 code.env (value a-task ∷ value a-find ∷ []) a-task code.calls-unbounded-turns·tasks·task-after
     (after.clauses 𝓤 H (𝓖 .A) (𝓜 .mem) (𝓡 .run)) (λ κs a. tt) (after-met.met 𝓤 H 𝓜 𝓖 𝓡) in
@@ -77,7 +83,8 @@ turn-own-spec 𝓤 H 𝓜 𝓖 𝓡 =
     (λ α δ. (refl, tt)) (λ α δ. given 𝓤 (asked .sound .small)) (λ α δ z ws. unit-said 𝓤) (λ _ e-is.
     unit-stored ! (tt, refl) ▹
     ends-own ! ps a-unit c a h tt refl a-process x e e-is
-    (e, (tt, (tt, (tt, tt)))) (refl, refl, tt, refl) (tt, (tt, (tt, (tt, tt)))) (given 𝓤 (state-ended g r p f k (is-true (endsBy f k) ended))))))))
+    (e, (tt, (tt, (tt, tt)))) (refl, refl, tt, refl) (tt, (tt, (tt, (tt, tt))))
+    (given 𝓤 (state-ended g r p f k (is-true (endsBy f k) ended))))))))
     (λ goes-on.
     reads-whole ! a-process p p-is refl (tt, refl) ▹
     gets ! read-is s ((tt, tt, refl), tt) (given 𝓤 (asked .sound, asked .passed)) (λ z ws. id⊢ 𝓤 _) (λ s-is.
@@ -86,4 +93,5 @@ turn-own-spec 𝓤 H 𝓜 𝓖 𝓡 =
     stores-field ! a-process a-task task-field s refl refl tt ▹
     unit-stored ! (tt, refl) ▹
     ends-own ! ps a-unit c a h tt refl a-process x (withTask (taskBy f k) s) (task-field .fine-with (taskBy f k) s k-is s-is)
-    (withTask (taskBy f k) s, (tt, (tt, (tt, tt)))) (refl, refl, tt, refl) (tt, (tt, (tt, (tt, tt)))) (given 𝓤 (state-went-on g r p f k (is-false (endsBy f k) goes-on)))))))))
+    (withTask (taskBy f k) s, (tt, (tt, (tt, tt)))) (refl, refl, tt, refl) (tt, (tt, (tt, (tt, tt))))
+    (given 𝓤 (state-went-on g r p f k (is-false (endsBy f k) goes-on)))))))))

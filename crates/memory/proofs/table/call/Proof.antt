@@ -5,7 +5,8 @@ use mathlib.Core.List.{List, [], _∷_}
 use mathlib.Core.Option.{none}
 use lib.Dec.{T}
 use lib.ListN.{getD, set}
-use Rattle.walks.proofs.Walking.{ !, Param, value, lent, a-usize, a-unit, thin, _▹_, begins-lent, lends-again, gets, calls-lent, ends-lent}
+use Rattle.walks.proofs.Walking.{ !, Param, value, lent, a-usize, a-unit, thin, _▹_, begins-lent, lends-again, gets, calls-lent}
+use Rattle.walks.proofs.Walking.{ends-lent}
 use Rattle.walks.proofs.Walking.{callee, asks-nothing, given, two-given, unit-said, id⊢}
 use Rattle.snapshot.specs.Requests.{numberIn}
 use Rattle.snapshot.specs.declared.Answer.the-variants.{Called}
@@ -40,7 +41,8 @@ call-spec 𝓤 H 𝓜 𝓖 𝓡 =
     (index.clauses 𝓤 H (𝓖 .A) (𝓜 .mem) (𝓡 .run)) (λ κs a. tt) (index-met.met 𝓤 H 𝓜 𝓖 𝓡) in
     let task-is = callee 𝓤 H 𝓜 𝓖 𝓡 code.env (value a-request ∷ []) a-task code.calls-unbounded-turns·tasks·task-for
     (task.clauses 𝓤 H (𝓖 .A) (𝓜 .mem) (𝓡 .run)) (λ κs a. tt) (task-met.met 𝓤 H 𝓜 𝓖 𝓡) in
-    let begins-is = callee 𝓤 H 𝓜 𝓖 𝓡 code.env (lent 0 tt a-process ∷ value a-usize ∷ value a-day ∷ value a-task ∷ []) a-unit code.calls-memory·elements·begin-at
+    let begins-is = callee 𝓤 H 𝓜 𝓖 𝓡 code.env (lent 0 tt a-process ∷ value a-usize ∷ value a-day ∷ value a-task ∷ []) a-unit
+    code.calls-memory·elements·begin-at
     (begins.clauses 𝓤 H (𝓖 .A) (𝓜 .mem) (𝓡 .run)) (λ κs a. tt) (begins-met.met 𝓤 H 𝓜 𝓖 𝓡) in
     let called-is = callee 𝓤 H 𝓜 𝓖 𝓡 code.env (value a-day ∷ []) an-outcome code.calls-admission·outcomes·called
     (called.clauses 𝓤 H (𝓖 .A) (𝓜 .mem) (𝓡 .run)) (λ κs a. tt) (called-met.met 𝓤 H 𝓜 𝓖 𝓡) in

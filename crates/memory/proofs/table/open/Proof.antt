@@ -1,9 +1,11 @@
 -- The check, and an answer of refusal; or every record is cleared.
 use mathlib.Core.Path.{_≡_, refl, sym, ap, _∙_}
 use mathlib.Core.List.{List, [], _∷_, map}
-use lib.ListN.{length, length-map}
-use Rattle.walks.proofs.Walking.{ !, Param, value, lent, a-usize, a-u32, a-bool, a-unit, thin, _▹_, begins-lent, counts, gets, gets-some, if-leaves}
-use Rattle.walks.proofs.Walking.{lends-again, calls-lent, ends-lent, callee, nothing-asked, asks-nothing, unit-said, two-given, id⊢}
+use lib.ListN.{length}
+use Rattle.walks.proofs.Walking.{ !, Param, value, lent, a-usize, a-u32, a-bool, a-unit, thin, _▹_, begins-lent, counts, gets}
+use Rattle.walks.proofs.Walking.{gets-some, if-leaves}
+use Rattle.walks.proofs.Walking.{lends-again, calls-lent, ends-lent, callee, nothing-asked, asks-nothing, unit-said, two-given}
+use Rattle.walks.proofs.Walking.{id⊢}
 use Rattle.snapshot.specs.Refusals.{firstCause}
 use Rattle.snapshot.specs.Days.{openFor}
 use Rattle.unbounded.specs.Registers.{ascending}
@@ -37,7 +39,8 @@ pub open-spec : {M : Type 1} → stated.statement M
 unfolding code.routine
 open-spec 𝓤 H 𝓜 𝓖 𝓡 =
     let c = f.clauses 𝓤 H (𝓖 .A) (𝓜 .mem) (𝓡 .run) in
-    let check-is = callee 𝓤 H 𝓜 𝓖 𝓡 code.env (value a-day ∷ value a-usize ∷ value a-u32 ∷ []) a-check code.calls-admission·checks·opening-check
+    let check-is = callee 𝓤 H 𝓜 𝓖 𝓡 code.env (value a-day ∷ value a-usize ∷ value a-u32 ∷ []) a-check
+    code.calls-admission·checks·opening-check
     (check.clauses 𝓤 H (𝓖 .A) (𝓜 .mem) (𝓡 .run)) (λ κs a. tt) (check-met.met 𝓤 H 𝓜 𝓖 𝓡) in
     let is-refused-is = callee 𝓤 H 𝓜 𝓖 𝓡 code.env (value a-check ∷ []) a-bool code.calls-admission·checks·is-refused
     (is-refused.clauses 𝓤 H (𝓖 .A) (𝓜 .mem) (𝓡 .run)) (λ κs a. tt) (is-refused-met.met 𝓤 H 𝓜 𝓖 𝓡) in
@@ -55,7 +58,8 @@ open-spec 𝓤 H 𝓜 𝓖 𝓡 =
     let zs = map (λ p. zeroProcess) (x .now) in
     begins-lent ! a-process x _ (nothing-asked 𝓤) (λ _.
     counts ! refl refl (tt, refl) ▹
-    gets-some ! check-is ((tt, tt, refl), tt) (asks-nothing 𝓤) (λ z. asOption z ≡ firstCause (openingChecks day (length (x .now)) k)) (λ z ws. id⊢ 𝓤 _) (λ z e is.
+    gets-some ! check-is ((tt, tt, refl), tt) (asks-nothing 𝓤)
+    (λ z. asOption z ≡ firstCause (openingChecks day (length (x .now)) k)) (λ z ws. id⊢ 𝓤 _) (λ z e is.
     let q = e ∙ opening-checks (figure3 ascending) s k in
     gets ! is-refused-is (isRefusal (asOption z)) ((tt, tt, refl), tt) (asks-nothing 𝓤) (λ r ws. id⊢ 𝓤 _) (λ _.
     if-leaves ! refl tt
@@ -72,4 +76,5 @@ open-spec 𝓤 H 𝓜 𝓖 𝓡 =
     let left = opened-leaves s k in
     let same = stepped-accepted s (openFor k) (sym q ∙ passed-none (asOption z) h₁) in
     ends-lent ! ps an-outcome c a h (openedOutcome k) is′ a-process x zs (are .1 .0 .0 .1) l
-    (tt, (zs, (tt, tt))) (refl, refl, tt, refl) (tt, (l, (tt, tt))) (two-given 𝓤 (left .0 ∙ ap outcomeOf same) (left .1 ∙ ap (λ r. r .state .table) same)))))))))
+    (tt, (zs, (tt, tt))) (refl, refl, tt, refl) (tt, (l, (tt, tt)))
+    (two-given 𝓤 (left .0 ∙ ap outcomeOf same) (left .1 ∙ ap (λ r. r .state .table) same)))))))))

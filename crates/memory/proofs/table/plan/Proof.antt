@@ -5,7 +5,8 @@ use mathlib.Core.Bool.{not}
 use mathlib.Core.List.{List, [], _∷_, foldl}
 use lib.Dec.{T}
 use lib.ListN.{length, getD}
-use Rattle.walks.proofs.Walking.{ !, Param, value, shared, a-usize, a-bool, thin, _▹_, begins-shared, gets, gets-some, calls-passed-is}
+use Rattle.walks.proofs.Walking.{ !, Param, value, shared, a-usize, a-bool, thin, _▹_, begins-shared, gets, gets-some}
+use Rattle.walks.proofs.Walking.{calls-passed-is}
 use Rattle.walks.proofs.Walking.{counts, copies, if-leaves, ends-shared, callee, asks-nothing, given, id⊢}
 use Rattle.snapshot.specs.Refusals.{firstCause}
 use Rattle.snapshot.specs.Requests.{numberIn}
@@ -44,17 +45,21 @@ plan-spec 𝓤 H 𝓜 𝓖 𝓡 =
     let c = f.clauses 𝓤 H (𝓖 .A) (𝓜 .mem) (𝓡 .run) in
     let limits-is = callee 𝓤 H 𝓜 𝓖 𝓡 code.env (value a-day ∷ []) a-survey code.calls-unbounded-turns·surveys·survey-of
     (limits.clauses 𝓤 H (𝓖 .A) (𝓜 .mem) (𝓡 .run)) (λ κs a. tt) (limits-met.met 𝓤 H 𝓜 𝓖 𝓡) in
-    let survey-is = callee 𝓤 H 𝓜 𝓖 𝓡 code.env (shared 0 tt a-process ∷ value a-survey ∷ []) a-survey code.calls-memory·elements·survey
+    let survey-is = callee 𝓤 H 𝓜 𝓖 𝓡 code.env (shared 0 tt a-process ∷ value a-survey ∷ []) a-survey
+    code.calls-memory·elements·survey
     (survey.clauses 𝓤 H (𝓖 .A) (𝓜 .mem) (𝓡 .run)) (λ κs a. tt) (survey-met.met 𝓤 H 𝓜 𝓖 𝓡) in
-    let first-is = callee 𝓤 H 𝓜 𝓖 𝓡 code.env (value a-day ∷ value a-usize ∷ value a-survey ∷ value a-request ∷ value a-usize ∷ []) a-check code.calls-admission·checks·first-check
+    let first-is = callee 𝓤 H 𝓜 𝓖 𝓡 code.env (value a-day ∷ value a-usize ∷ value a-survey ∷ value a-request ∷ value a-usize ∷
+    []) a-check code.calls-admission·checks·first-check
     (first.clauses 𝓤 H (𝓖 .A) (𝓜 .mem) (𝓡 .run)) (λ κs a. tt) (first-met.met 𝓤 H 𝓜 𝓖 𝓡) in
     let is-refused-is = callee 𝓤 H 𝓜 𝓖 𝓡 code.env (value a-check ∷ []) a-bool code.calls-admission·checks·is-refused
     (is-refused.clauses 𝓤 H (𝓖 .A) (𝓜 .mem) (𝓡 .run)) (λ κs a. tt) (is-refused-met.met 𝓤 H 𝓜 𝓖 𝓡) in
     let index-is = callee 𝓤 H 𝓜 𝓖 𝓡 code.env (value a-request ∷ []) a-usize code.calls-admission·requests·index-in
     (index.clauses 𝓤 H (𝓖 .A) (𝓜 .mem) (𝓡 .run)) (λ κs a. tt) (index-met.met 𝓤 H 𝓜 𝓖 𝓡) in
-    let rests-is = callee 𝓤 H 𝓜 𝓖 𝓡 code.env (shared 0 tt a-process ∷ value a-usize ∷ []) a-bool code.calls-memory·elements·rests-at
+    let rests-is = callee 𝓤 H 𝓜 𝓖 𝓡 code.env (shared 0 tt a-process ∷ value a-usize ∷ []) a-bool
+    code.calls-memory·elements·rests-at
     (rests.clauses 𝓤 H (𝓖 .A) (𝓜 .mem) (𝓡 .run)) (λ κs a. tt) (rests-met.met 𝓤 H 𝓜 𝓖 𝓡) in
-    let last-is = callee 𝓤 H 𝓜 𝓖 𝓡 code.env (value a-survey ∷ value a-request ∷ value a-bool ∷ []) a-check code.calls-admission·checks·last-check
+    let last-is = callee 𝓤 H 𝓜 𝓖 𝓡 code.env (value a-survey ∷ value a-request ∷ value a-bool ∷ []) a-check
+    code.calls-admission·checks·last-check
     (last.clauses 𝓤 H (𝓖 .A) (𝓜 .mem) (𝓡 .run)) (λ κs a. tt) (last-met.met 𝓤 H 𝓜 𝓖 𝓡) in
     thin ps a-check 𝓤 H 𝓜 𝓖 𝓡 code.env c _ _ #f (code.unfolded 𝓤 H 𝓜 𝓡) (λ κs qs a h are bs.
     let day = a .0 in
@@ -66,9 +71,12 @@ plan-spec 𝓤 H 𝓜 𝓖 𝓡 =
     let idle = isIdle (getD (x .now) i noProcess .task) in
     begins-shared ! a-process x (T (not (isOpening r))) (id⊢ 𝓤 _) (λ item.
     gets ! limits-is (surveyOf day) ((tt, tt, refl), tt) (asks-nothing 𝓤) (λ z ws. id⊢ 𝓤 _) (λ _.
-    calls-passed-is ! a-process (κs .0) (qs .0) (x .ptr .0) (x .ptr .1) (x .name) (x .now) (are .1 .0 .0 .1) survey-is found ((tt, tt, refl), (refl, tt)) (asks-nothing 𝓤) (λ z ws. id⊢ 𝓤 _) (λ _.
+    calls-passed-is ! a-process (κs .0) (qs .0) (x .ptr .0) (x .ptr .1) (x .name) (x .now) (are .1 .0 .0 .1) survey-is found
+    ((tt, tt, refl), (refl, tt)) (asks-nothing 𝓤) (λ z ws. id⊢ 𝓤 _) (λ _.
     counts ! refl refl (tt, refl) ▹
-    gets-some ! first-is ((tt, tt, refl), tt) (asks-nothing 𝓤) (λ z. asOption z ≡ firstCause (firstCauses day (length (x .now)) (isShort day words r) (found .bad) (numberIn r))) (λ z ws. id⊢ 𝓤 _) (λ z e z-is.
+    gets-some ! first-is ((tt, tt, refl), tt) (asks-nothing 𝓤)
+    (λ z. asOption z ≡ firstCause (firstCauses day (length (x .now)) (isShort day words r) (found .bad) (numberIn r)))
+    (λ z ws. id⊢ 𝓤 _) (λ z e z-is.
     gets ! is-refused-is (isRefusal (asOption z)) ((tt, tt, refl), tt) (asks-nothing 𝓤) (λ y ws. id⊢ 𝓤 _) (λ _.
     if-leaves ! refl tt
     (λ held.
@@ -78,8 +86,10 @@ plan-spec 𝓤 H 𝓜 𝓖 𝓡 =
     (λ failed.
     let passed = sym e ∙ passed-none (asOption z) failed in
     gets ! index-is i ((tt, tt, refl), tt) (given 𝓤 (plan-number day (x .now) r item words passed)) (λ y ws. id⊢ 𝓤 _) (λ _.
-    calls-passed-is ! a-process (κs .0) (qs .0) (x .ptr .0) (x .ptr .1) (x .name) (x .now) (are .1 .0 .0 .1) rests-is idle ((tt, tt, refl), (refl, tt))
+    calls-passed-is ! a-process (κs .0) (qs .0) (x .ptr .0) (x .ptr .1) (x .name) (x .now) (are .1 .0 .0 .1) rests-is idle
+    ((tt, tt, refl), (refl, tt))
     (given 𝓤 (plan-inside day (x .now) r item words passed)) (λ y ws. id⊢ 𝓤 _) (λ _.
-    gets-some ! last-is ((tt, tt, refl), tt) (asks-nothing 𝓤) (λ y. asOption y ≡ firstCause (lastCauses (found .event) r idle)) (λ y ws. id⊢ 𝓤 _) (λ y e′ y-is.
+    gets-some ! last-is ((tt, tt, refl), tt) (asks-nothing 𝓤) (λ y. asOption y ≡ firstCause (lastCauses (found .event) r idle))
+    (λ y ws. id⊢ 𝓤 _) (λ y e′ y-is.
     ends-shared ! ps a-check c a h y y-is (tt, (tt, (tt, (tt, tt)))) (refl, refl, tt, refl) (tt, (tt, (tt, (tt, tt))))
     (given 𝓤 (λ page q. e′ ∙ plan-last day (x .now) r item words passed page q))))))))))))

@@ -1,10 +1,11 @@
 -- One register is read, a page is looked for and laid, and the record is set by `turn_at`.
 use Prim.Native.Nat.{_≤_, _<_}
 use native.Mathlib.Nat.{le-trans, lt-of-lt-of-le}
-use mathlib.Core.Path.{_≡_, refl, sym, ap, subst}
+use mathlib.Core.Path.{refl, sym, ap, subst}
 use mathlib.Core.List.{List, [], _∷_}
 use lib.ListN.{length, getD, set}
-use Rattle.walks.proofs.Walking.{ !, Param, value, shared, lent, a-usize, a-u32, a-unit, thin, _▹_, begins-two, lends-again, swaps, gets, gets-also}
+use Rattle.walks.proofs.Walking.{ !, Param, value, shared, lent, a-usize, a-u32, a-unit, thin, _▹_, begins-two, lends-again}
+use Rattle.walks.proofs.Walking.{swaps, gets, gets-also}
 use Rattle.walks.proofs.Walking.{calls-shared-is, calls-lent, ends-two, callee, given, three-given, two-said, unit-said, id⊢}
 use Rattle.unbounded.specs.Processes.{noProcess, turnsOf}
 use Rattle.unbounded.specs.Turns.{placeAt}
@@ -42,21 +43,27 @@ pub read-turn-spec : {M : Type 1} → stated.statement M
 unfolding code.routine
 read-turn-spec 𝓤 H 𝓜 𝓖 𝓡 =
     let c = f.clauses 𝓤 H (𝓖 .A) (𝓜 .mem) (𝓡 .run) in
-    let access-is = callee 𝓤 H 𝓜 𝓖 𝓡 code.env (value a-day ∷ value a-task ∷ []) an-access code.calls-unbounded-turns·accesses·access-of
+    let access-is = callee 𝓤 H 𝓜 𝓖 𝓡 code.env (value a-day ∷ value a-task ∷ []) an-access
+    code.calls-unbounded-turns·accesses·access-of
     (access.clauses 𝓤 H (𝓖 .A) (𝓜 .mem) (𝓡 .run)) (λ κs a. tt) (access-met.met 𝓤 H 𝓜 𝓖 𝓡) in
     let place-is = callee 𝓤 H 𝓜 𝓖 𝓡 code.env (value an-access ∷ []) a-usize code.calls-unbounded-turns·accesses·place-of
     (place.clauses 𝓤 H (𝓖 .A) (𝓜 .mem) (𝓡 .run)) (λ κs a. tt) (place-met.met 𝓤 H 𝓜 𝓖 𝓡) in
-    let register-is = callee 𝓤 H 𝓜 𝓖 𝓡 code.env (shared 0 tt a-process ∷ value a-usize ∷ []) a-register code.calls-memory·elements·register-at
+    let register-is = callee 𝓤 H 𝓜 𝓖 𝓡 code.env (shared 0 tt a-process ∷ value a-usize ∷ []) a-register
+    code.calls-memory·elements·register-at
     (register.clauses 𝓤 H (𝓖 .A) (𝓜 .mem) (𝓡 .run)) (λ κs a. tt) (register-met.met 𝓤 H 𝓜 𝓖 𝓡) in
-    let find-is = callee 𝓤 H 𝓜 𝓖 𝓡 code.env (shared 0 tt a-process ∷ value a-usize ∷ value an-access ∷ value a-register ∷ []) a-find code.calls-memory·elements·find-at
+    let find-is = callee 𝓤 H 𝓜 𝓖 𝓡 code.env (shared 0 tt a-process ∷ value a-usize ∷ value an-access ∷ value a-register ∷ [])
+    a-find code.calls-memory·elements·find-at
     (find.clauses 𝓤 H (𝓖 .A) (𝓜 .mem) (𝓡 .run)) (λ κs a. tt) (find-met.met 𝓤 H 𝓜 𝓖 𝓡) in
-    let lay-is = callee 𝓤 H 𝓜 𝓖 𝓡 code.env (value an-access ∷ value a-task ∷ value a-find ∷ lent 0 tt a-u32 ∷ []) a-unit code.calls-unbounded-turns·finds·lay-page
+    let lay-is = callee 𝓤 H 𝓜 𝓖 𝓡 code.env (value an-access ∷ value a-task ∷ value a-find ∷ lent 0 tt a-u32 ∷ []) a-unit
+    code.calls-unbounded-turns·finds·lay-page
     (lay.clauses 𝓤 H (𝓖 .A) (𝓜 .mem) (𝓡 .run)) (λ κs a. tt) (lay-met.met 𝓤 H 𝓜 𝓖 𝓡) in
-    let turns-is = callee 𝓤 H 𝓜 𝓖 𝓡 code.env (lent 0 tt a-process ∷ value a-usize ∷ value an-access ∷ value a-register ∷ value a-find ∷ []) a-unit code.calls-memory·elements·turn-at
+    let turns-is = callee 𝓤 H 𝓜 𝓖 𝓡 code.env (lent 0 tt a-process ∷ value a-usize ∷ value an-access ∷ value a-register ∷ value
+    a-find ∷ []) a-unit code.calls-memory·elements·turn-at
     (turns.clauses 𝓤 H (𝓖 .A) (𝓜 .mem) (𝓡 .run)) (λ κs a. tt) (turns-met.met 𝓤 H 𝓜 𝓖 𝓡) in
     let answer-is = callee 𝓤 H 𝓜 𝓖 𝓡 code.env (value a-task ∷ value a-find ∷ []) an-answer code.calls-unbounded-turns·tasks·answer
     (answer.clauses 𝓤 H (𝓖 .A) (𝓜 .mem) (𝓡 .run)) (λ κs a. tt) (answer-met.met 𝓤 H 𝓜 𝓖 𝓡) in
-    let accepted-is = callee 𝓤 H 𝓜 𝓖 𝓡 code.env (value a-day ∷ value an-answer ∷ []) an-outcome code.calls-admission·outcomes·accepted
+    let accepted-is = callee 𝓤 H 𝓜 𝓖 𝓡 code.env (value a-day ∷ value an-answer ∷ []) an-outcome
+    code.calls-admission·outcomes·accepted
     (accepted.clauses 𝓤 H (𝓖 .A) (𝓜 .mem) (𝓡 .run)) (λ κs a. tt) (accepted-met.met 𝓤 H 𝓜 𝓖 𝓡) in
     thin ps an-outcome 𝓤 H 𝓜 𝓖 𝓡 code.env c _ _ #f (code.unfolded 𝓤 H 𝓜 𝓡) (λ κs qs a h are bs.
     let day = a .0 in
@@ -79,7 +86,8 @@ read-turn-spec 𝓤 H 𝓜 𝓖 𝓡 =
     gets-also ! access-is g ((tt, tt, refl), tt) (given 𝓤 (t .allows)) Sound (λ z ws. two-said 𝓤) (λ sound _.
     let few : g .n ≤ length (x .now) = subst (λ z. z ≤ length (x .now)) (sym n) (t .full) in
     lends-again ! refl refl refl (tt, tt) ▹
-    gets-also ! place-is (placeAt (g .n) (g .pos)) ((tt, tt, refl), tt) (given 𝓤 sound) (λ z. z < g .n) (λ z ws. two-said 𝓤) (λ below _.
+    gets-also ! place-is (placeAt (g .n) (g .pos)) ((tt, tt, refl), tt) (given 𝓤 sound) (λ z. z < g .n) (λ z ws. two-said 𝓤)
+    (λ below _.
     calls-shared-is ! a-process (x .ptr .0) (x .ptr .1) (x .now) room register-is r (tt, tt, refl) (λ α δ. (refl, tt))
     (λ α δ. given 𝓤 (lt-of-lt-of-le below few)) (λ α δ z ws. id⊢ 𝓤 _) (λ _.
     lends-again ! refl refl refl (tt, tt) ▹
@@ -92,7 +100,16 @@ read-turn-spec 𝓤 H 𝓜 𝓖 𝓡 =
     swaps ! ▹
     lends-again ! refl refl refl (tt, tt) ▹
     calls-lent ! a-process (x .ptr .0) (x .ptr .1) (x .now) us room turns-is tt (tt, tt, refl) (λ α δ. (refl, tt))
-    (λ α δ. given 𝓤 (t .inside, record { sound = sound; passed = le-trans (find-passed g r p) (sound .small); seq = t .seq; turns = subst (λ z. turnsOf z < 4294967295) (sym (t .task)) (t .turns) }))
+    (λ α δ. given 𝓤 (
+      t .inside,
+      record {
+        sound = sound;
+        passed = le-trans (find-passed g r p)
+            (sound .small);
+        seq = t .seq;
+        turns = subst (λ z. turnsOf z < 4294967295) (sym (t .task)) (t .turns);
+      },
+    ))
     (λ α δ z ws. unit-said 𝓤) (λ _ l.
     gets ! answer-is (answerBy f k) ((tt, tt, refl), tt) (given 𝓤 (t .turns)) (λ z ws. id⊢ 𝓤 _) (λ _.
     gets ! accepted-is o ((tt, tt, refl), tt) (given 𝓤 (t .allows .room)) (λ z ws. id⊢ 𝓤 _) (λ is.

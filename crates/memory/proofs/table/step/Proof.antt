@@ -1,14 +1,15 @@
 -- An opening goes to `open`. Any other request is planned, and is refused, called or turned.
-use mathlib.Core.Path.{_≡_, refl, sym, ap, subst, _∙_}
+use mathlib.Core.Path.{refl, sym, ap, _∙_}
 use mathlib.Core.List.{List, [], _∷_}
-use mathlib.Core.Option.{none}
 use lib.ListN.{length}
-use Rattle.walks.proofs.Walking.{ !, Param, value, shared, lent, a-usize, a-u32, a-bool, thin, _▹_, begins-two, lends-again, counts, gets, calls-shared, if-leaves}
-use Rattle.walks.proofs.Walking.{calls-lent, calls-two, ends-two, callee, nothing-asked, asks-nothing, given, three-given, two-said, three-said, id⊢}
+use Rattle.walks.proofs.Walking.{ !, Param, value, shared, lent, a-usize, a-u32, a-bool, thin, _▹_, begins-two, lends-again}
+use Rattle.walks.proofs.Walking.{counts, gets, calls-shared, if-leaves}
+use Rattle.walks.proofs.Walking.{calls-lent, calls-two, ends-two, callee, nothing-asked, asks-nothing, given, three-given}
+use Rattle.walks.proofs.Walking.{two-said, three-said, id⊢}
 use Rattle.snapshot.specs.Requests.{numberIn}
 use Rattle.snapshot.specs.Days.{openFor}
 use Rattle.unbounded.specs.Days.{stepped}
-use Rattle.admission.specs.Requests.{itemOf, pageAfter, isOpening, isCall}
+use Rattle.admission.specs.Requests.{itemOf, isOpening, isCall}
 use Rattle.admission.specs.Checks.{asOption, isRefusal}
 use Rattle.admission.specs.Outcomes.{refusedOutcome}
 use Rattle.admission.proofs.Checked.{passed-none}
@@ -50,9 +51,11 @@ step-spec 𝓤 H 𝓜 𝓖 𝓡 =
     (is-opening.clauses 𝓤 H (𝓖 .A) (𝓜 .mem) (𝓡 .run)) (λ κs a. tt) (is-opening-met.met 𝓤 H 𝓜 𝓖 𝓡) in
     let number-is = callee 𝓤 H 𝓜 𝓖 𝓡 code.env (value a-request ∷ []) a-u32 code.calls-snapshot·number-in
     (number.clauses 𝓤 H (𝓖 .A) (𝓜 .mem) (𝓡 .run)) (λ κs a. tt) (number-met.met 𝓤 H 𝓜 𝓖 𝓡) in
-    let opens-is = callee 𝓤 H 𝓜 𝓖 𝓡 code.env (value a-day ∷ lent 0 tt a-process ∷ value a-u32 ∷ []) an-outcome code.calls-memory·table·open
+    let opens-is = callee 𝓤 H 𝓜 𝓖 𝓡 code.env (value a-day ∷ lent 0 tt a-process ∷ value a-u32 ∷ []) an-outcome
+    code.calls-memory·table·open
     (opens.clauses 𝓤 H (𝓖 .A) (𝓜 .mem) (𝓡 .run)) (λ κs a. tt) (opens-met.met 𝓤 H 𝓜 𝓖 𝓡) in
-    let plan-is = callee 𝓤 H 𝓜 𝓖 𝓡 code.env (value a-day ∷ shared 0 tt a-process ∷ value a-request ∷ value a-usize ∷ []) a-check code.calls-memory·table·plan
+    let plan-is = callee 𝓤 H 𝓜 𝓖 𝓡 code.env (value a-day ∷ shared 0 tt a-process ∷ value a-request ∷ value a-usize ∷ []) a-check
+    code.calls-memory·table·plan
     (plan.clauses 𝓤 H (𝓖 .A) (𝓜 .mem) (𝓡 .run)) (λ κs a. tt) (plan-met.met 𝓤 H 𝓜 𝓖 𝓡) in
     let is-refused-is = callee 𝓤 H 𝓜 𝓖 𝓡 code.env (value a-check ∷ []) a-bool code.calls-admission·checks·is-refused
     (is-refused.clauses 𝓤 H (𝓖 .A) (𝓜 .mem) (𝓡 .run)) (λ κs a. tt) (is-refused-met.met 𝓤 H 𝓜 𝓖 𝓡) in
@@ -60,9 +63,11 @@ step-spec 𝓤 H 𝓜 𝓖 𝓡 =
     (refused.clauses 𝓤 H (𝓖 .A) (𝓜 .mem) (𝓡 .run)) (λ κs a. tt) (refused-met.met 𝓤 H 𝓜 𝓖 𝓡) in
     let is-call-is = callee 𝓤 H 𝓜 𝓖 𝓡 code.env (value a-request ∷ []) a-bool code.calls-admission·requests·is-call
     (is-call.clauses 𝓤 H (𝓖 .A) (𝓜 .mem) (𝓡 .run)) (λ κs a. tt) (is-call-met.met 𝓤 H 𝓜 𝓖 𝓡) in
-    let calls-is = callee 𝓤 H 𝓜 𝓖 𝓡 code.env (value a-day ∷ lent 0 tt a-process ∷ value a-request ∷ []) an-outcome code.calls-memory·table·call
+    let calls-is = callee 𝓤 H 𝓜 𝓖 𝓡 code.env (value a-day ∷ lent 0 tt a-process ∷ value a-request ∷ []) an-outcome
+    code.calls-memory·table·call
     (calls.clauses 𝓤 H (𝓖 .A) (𝓜 .mem) (𝓡 .run)) (λ κs a. tt) (calls-met.met 𝓤 H 𝓜 𝓖 𝓡) in
-    let turns-is = callee 𝓤 H 𝓜 𝓖 𝓡 code.env (value a-day ∷ lent 0 tt a-process ∷ value a-request ∷ lent 1 tt a-u32 ∷ []) an-outcome code.calls-memory·table·turn-on
+    let turns-is = callee 𝓤 H 𝓜 𝓖 𝓡 code.env (value a-day ∷ lent 0 tt a-process ∷ value a-request ∷ lent 1 tt a-u32 ∷ [])
+    an-outcome code.calls-memory·table·turn-on
     (turns.clauses 𝓤 H (𝓖 .A) (𝓜 .mem) (𝓡 .run)) (λ κs a. tt) (turns-met.met 𝓤 H 𝓜 𝓖 𝓡) in
     thin ps an-outcome 𝓤 H 𝓜 𝓖 𝓡 code.env c _ _ #f (code.unfolded 𝓤 H 𝓜 𝓡) (λ κs qs a h are bs.
     let day = a .0 in
@@ -87,11 +92,13 @@ step-spec 𝓤 H 𝓜 𝓖 𝓡 =
     (λ α δ. asks-nothing 𝓤) (λ α δ z ws. two-said 𝓤) (λ is l.
     ends-two ! ps an-outcome c a h (outcomeOf done) is a-process x us room l a-u32 y (y .now) room′ refl
     (tt, (us, (tt, (y .now, tt)))) (refl, refl, tt, refl) (tt, (l, (tt, (refl, tt))))
-    (three-given 𝓤 (ap (λ z. outcomeOf (stepped s z)) same) (ap (λ z. stepped s z .state .table) same) (after-opening (y .now) all r opening)))))
+    (three-given 𝓤 (ap (λ z. outcomeOf (stepped s z)) same) (ap (λ z. stepped s z .state .table) same)
+    (after-opening (y .now) all r opening)))))
     (λ later.
     lends-again ! refl refl refl (tt, tt) ▹
     counts ! refl refl (tt, refl) ▹
-    calls-shared ! a-process (x .ptr .0) (x .ptr .1) (x .now) room plan-is (λ z. RefusedBy day (x .now) r (length (y .now)) (asOption z)) (tt, tt, refl) (λ α δ. (refl, tt))
+    calls-shared ! a-process (x .ptr .0) (x .ptr .1) (x .now) room plan-is
+    (λ z. RefusedBy day (x .now) r (length (y .now)) (asOption z)) (tt, tt, refl) (λ α δ. (refl, tt))
     (λ α δ. given 𝓤 later) (λ α δ z ws. id⊢ 𝓤 _) (λ z e _.
     gets ! is-refused-is (isRefusal (asOption z)) ((tt, tt, refl), tt) (asks-nothing 𝓤) (λ q ws. id⊢ 𝓤 _) (λ _.
     if-leaves ! refl tt
@@ -122,8 +129,11 @@ step-spec 𝓤 H 𝓜 𝓖 𝓡 =
     let us = done .state .table in
     lends-again ! refl refl refl (tt, tt) ▹
     lends-again ! refl refl refl (tt, tt) ▹
-    calls-two ! a-process (x .ptr .0) (x .ptr .1) (x .now) us room a-u32 (y .ptr .0) (y .ptr .1) (y .now) (done .page) room′ turns-is (outcomeOf done)
-    (tt, tt, refl) (λ α β δ ε. (refl, (refl, tt))) (λ α β δ ε. given 𝓤 (later, turn, passed)) (λ α β δ ε q ws. three-said 𝓤) (λ is l l′.
+    calls-two ! a-process (x .ptr .0) (x .ptr .1) (x .now) us room a-u32 (y .ptr .0) (y .ptr .1) (y .now)
+    (done .page) room′ turns-is (outcomeOf done)
+    (tt, tt, refl) (λ α β δ ε. (refl, (refl, tt))) (λ α β δ ε. given 𝓤 (later, turn, passed)) (λ α β δ ε q ws. three-said 𝓤)
+    (λ is l l′.
     ends-two ! ps an-outcome c a h (outcomeOf done) is a-process x us room l a-u32 y (done .page) room′ l′
     (tt, (us, (tt, (done .page, tt)))) (refl, refl, tt, refl) (tt, (l, (tt, (l′, tt))))
-    (three-given 𝓤 (ap outcomeOf same) (ap (λ q. q .state .table) same) (ap (λ q. q .page) same ∙ after-turn (y .now) all r later turn))))))))))))
+    (three-given 𝓤 (ap outcomeOf same) (ap (λ q. q .state .table) same)
+    (ap (λ q. q .page) same ∙ after-turn (y .now) all r later turn))))))))))))

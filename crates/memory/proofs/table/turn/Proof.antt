@@ -26,7 +26,8 @@ turn-spec 𝓤 H 𝓜 𝓖 𝓡 =
     let c = f.clauses 𝓤 H (𝓖 .A) (𝓜 .mem) (𝓡 .run) in
     let makes-is = callee 𝓤 H 𝓜 𝓖 𝓡 code.env (value a-u32 ∷ []) a-request code.calls-admission·requests·turn
     (makes.clauses 𝓤 H (𝓖 .A) (𝓜 .mem) (𝓡 .run)) (λ κs a. tt) (makes-met.met 𝓤 H 𝓜 𝓖 𝓡) in
-    let steps-is = callee 𝓤 H 𝓜 𝓖 𝓡 code.env (value a-day ∷ lent 0 tt a-process ∷ value a-request ∷ lent 1 tt a-u32 ∷ []) an-outcome code.calls-memory·table·step
+    let steps-is = callee 𝓤 H 𝓜 𝓖 𝓡 code.env (value a-day ∷ lent 0 tt a-process ∷ value a-request ∷ lent 1 tt a-u32 ∷ [])
+    an-outcome code.calls-memory·table·step
     (steps.clauses 𝓤 H (𝓖 .A) (𝓜 .mem) (𝓡 .run)) (λ κs a. tt) (steps-met.met 𝓤 H 𝓜 𝓖 𝓡) in
     thin ps an-outcome 𝓤 H 𝓜 𝓖 𝓡 code.env c _ _ #f (code.unfolded 𝓤 H 𝓜 𝓡) (λ κs qs a h are bs.
     let day = a .0 in
@@ -40,7 +41,9 @@ turn-spec 𝓤 H 𝓜 𝓖 𝓡 =
     lends-again ! refl refl refl (tt, tt) ▹
     gets ! makes-is (Turn d) ((tt, tt, refl), tt) (asks-nothing 𝓤) (λ z ws. id⊢ 𝓤 _) (λ _.
     lends-again ! refl refl refl (tt, tt) ▹
-    calls-two ! a-process (x .ptr .0) (x .ptr .1) (x .now) (r .state .table) room a-u32 (y .ptr .0) (y .ptr .1) (y .now) (r .page) room′ steps-is (outcomeOf r)
+    calls-two ! a-process (x .ptr .0) (x .ptr .1) (x .now) (r .state .table) room a-u32 (y .ptr .0) (y .ptr .1) (y .now)
+    (r .page) room′ steps-is (outcomeOf r)
     (tt, tt, refl) (λ α β δ ε. (refl, (refl, tt))) (λ α β δ ε. asks-nothing 𝓤) (λ α β δ ε z ws. three-said 𝓤) (λ is l l′.
     ends-two ! ps an-outcome c a h (outcomeOf r) is a-process x (r .state .table) room l a-u32 y (r .page) room′ l′
-    (tt, (r .state .table, (tt, (r .page, tt)))) (refl, refl, tt, refl) (tt, (l, (tt, (l′, tt)))) (three-given 𝓤 refl refl refl)))))
+    (tt, (r .state .table, (tt, (r .page, tt)))) (refl, refl, tt, refl) (tt, (l, (tt, (l′, tt))))
+    (three-given 𝓤 refl refl refl)))))

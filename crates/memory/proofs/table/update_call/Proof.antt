@@ -26,7 +26,8 @@ update-call-spec 𝓤 H 𝓜 𝓖 𝓡 =
     let c = f.clauses 𝓤 H (𝓖 .A) (𝓜 .mem) (𝓡 .run) in
     let makes-is = callee 𝓤 H 𝓜 𝓖 𝓡 code.env (value a-u32 ∷ value a-u32 ∷ []) a-request code.calls-admission·requests·update
     (makes.clauses 𝓤 H (𝓖 .A) (𝓜 .mem) (𝓡 .run)) (λ κs a. tt) (makes-met.met 𝓤 H 𝓜 𝓖 𝓡) in
-    let asks-is = callee 𝓤 H 𝓜 𝓖 𝓡 code.env (value a-day ∷ lent 0 tt a-process ∷ value a-request ∷ []) an-outcome code.calls-memory·table·ask-call
+    let asks-is = callee 𝓤 H 𝓜 𝓖 𝓡 code.env (value a-day ∷ lent 0 tt a-process ∷ value a-request ∷ []) an-outcome
+    code.calls-memory·table·ask-call
     (asks.clauses 𝓤 H (𝓖 .A) (𝓜 .mem) (𝓡 .run)) (λ κs a. tt) (asks-met.met 𝓤 H 𝓜 𝓖 𝓡) in
     thin ps an-outcome 𝓤 H 𝓜 𝓖 𝓡 code.env c _ _ #f (code.unfolded 𝓤 H 𝓜 𝓡) (λ κs qs a h are bs.
     let day = a .0 in
@@ -36,7 +37,8 @@ update-call-spec 𝓤 H 𝓜 𝓖 𝓡 =
     begins-lent ! a-process x _ (nothing-asked 𝓤) (λ _.
     lends-again ! refl refl refl (tt, tt) ▹
     gets ! makes-is q ((tt, tt, refl), tt) (asks-nothing 𝓤) (λ z ws. id⊢ 𝓤 _) (λ _.
-    calls-lent ! a-process (x .ptr .0) (x .ptr .1) (x .now) (r .state .table) (are .1 .0 .0 .1) asks-is (outcomeOf r) (tt, tt, refl) (λ α δ. (refl, tt))
+    calls-lent ! a-process (x .ptr .0) (x .ptr .1) (x .now) (r .state .table) (are .1 .0 .0 .1) asks-is (outcomeOf r)
+    (tt, tt, refl) (λ α δ. (refl, tt))
     (λ α δ. given 𝓤 tt) (λ α δ z ws. two-said 𝓤) (λ is l.
     ends-lent ! ps an-outcome c a h (outcomeOf r) is a-process x (r .state .table) (are .1 .0 .0 .1) l
     (tt, (r .state .table, (tt, (tt, tt)))) (refl, refl, tt, refl) (tt, (l, (tt, (tt, tt)))) (two-given 𝓤 refl refl)))))

@@ -1,10 +1,11 @@
 -- The record is set by `turn_at`, with no register read and nothing found.
 use Prim.Native.Nat.{_<_}
 use native.Mathlib.Omega.{arith}
-use mathlib.Core.Path.{_≡_, refl, sym, ap, subst}
+use mathlib.Core.Path.{refl, sym, ap, subst}
 use mathlib.Core.List.{List, [], _∷_}
 use lib.ListN.{getD, set}
-use Rattle.walks.proofs.Walking.{ !, Param, value, lent, a-usize, a-unit, thin, _▹_, begins-lent, lends-again, gets, gets-also, calls-lent, ends-lent}
+use Rattle.walks.proofs.Walking.{ !, Param, value, lent, a-usize, a-unit, thin, _▹_, begins-lent, lends-again, gets, gets-also}
+use Rattle.walks.proofs.Walking.{calls-lent, ends-lent}
 use Rattle.walks.proofs.Walking.{callee, asks-nothing, given, two-given, two-said, unit-said, id⊢}
 use Rattle.unbounded.specs.Registers.{zeroRegister}
 use Rattle.unbounded.specs.Processes.{noProcess, turnsOf}
@@ -37,17 +38,20 @@ pub write-turn-spec : {M : Type 1} → stated.statement M
 unfolding code.routine
 write-turn-spec 𝓤 H 𝓜 𝓖 𝓡 =
     let c = f.clauses 𝓤 H (𝓖 .A) (𝓜 .mem) (𝓡 .run) in
-    let access-is = callee 𝓤 H 𝓜 𝓖 𝓡 code.env (value a-day ∷ value a-task ∷ []) an-access code.calls-unbounded-turns·accesses·access-of
+    let access-is = callee 𝓤 H 𝓜 𝓖 𝓡 code.env (value a-day ∷ value a-task ∷ []) an-access
+    code.calls-unbounded-turns·accesses·access-of
     (access.clauses 𝓤 H (𝓖 .A) (𝓜 .mem) (𝓡 .run)) (λ κs a. tt) (access-met.met 𝓤 H 𝓜 𝓖 𝓡) in
     let nothing-is = callee 𝓤 H 𝓜 𝓖 𝓡 code.env [] a-find code.calls-unbounded-turns·finds·nothing-found
     (nothing.clauses 𝓤 H (𝓖 .A) (𝓜 .mem) (𝓡 .run)) (λ κs a. tt) (nothing-met.met 𝓤 H 𝓜 𝓖 𝓡) in
     let no-register-is = callee 𝓤 H 𝓜 𝓖 𝓡 code.env [] a-register code.calls-unbounded-turns·collects·no-register
     (no-register.clauses 𝓤 H (𝓖 .A) (𝓜 .mem) (𝓡 .run)) (λ κs a. tt) (no-register-met.met 𝓤 H 𝓜 𝓖 𝓡) in
-    let turns-is = callee 𝓤 H 𝓜 𝓖 𝓡 code.env (lent 0 tt a-process ∷ value a-usize ∷ value an-access ∷ value a-register ∷ value a-find ∷ []) a-unit code.calls-memory·elements·turn-at
+    let turns-is = callee 𝓤 H 𝓜 𝓖 𝓡 code.env (lent 0 tt a-process ∷ value a-usize ∷ value an-access ∷ value a-register ∷ value
+    a-find ∷ []) a-unit code.calls-memory·elements·turn-at
     (turns.clauses 𝓤 H (𝓖 .A) (𝓜 .mem) (𝓡 .run)) (λ κs a. tt) (turns-met.met 𝓤 H 𝓜 𝓖 𝓡) in
     let answer-is = callee 𝓤 H 𝓜 𝓖 𝓡 code.env (value a-task ∷ value a-find ∷ []) an-answer code.calls-unbounded-turns·tasks·answer
     (answer.clauses 𝓤 H (𝓖 .A) (𝓜 .mem) (𝓡 .run)) (λ κs a. tt) (answer-met.met 𝓤 H 𝓜 𝓖 𝓡) in
-    let accepted-is = callee 𝓤 H 𝓜 𝓖 𝓡 code.env (value a-day ∷ value an-answer ∷ []) an-outcome code.calls-admission·outcomes·accepted
+    let accepted-is = callee 𝓤 H 𝓜 𝓖 𝓡 code.env (value a-day ∷ value an-answer ∷ []) an-outcome
+    code.calls-admission·outcomes·accepted
     (accepted.clauses 𝓤 H (𝓖 .A) (𝓜 .mem) (𝓡 .run)) (λ κs a. tt) (accepted-met.met 𝓤 H 𝓜 𝓖 𝓡) in
     thin ps an-outcome 𝓤 H 𝓜 𝓖 𝓡 code.env c _ _ #f (code.unfolded 𝓤 H 𝓜 𝓡) (λ κs qs a h are bs.
     let day = a .0 in
@@ -65,7 +69,16 @@ write-turn-spec 𝓤 H 𝓜 𝓖 𝓡 =
     lends-again ! refl refl refl (tt, tt) ▹
     gets ! no-register-is zeroRegister ((tt, tt, refl), tt) (asks-nothing 𝓤) (λ z ws. id⊢ 𝓤 _) (λ _.
     calls-lent ! a-process (x .ptr .0) (x .ptr .1) (x .now) us (are .1 .0 .0 .1) turns-is tt (tt, tt, refl) (λ α δ. (refl, tt))
-    (λ α δ. given 𝓤 (t .inside, record { sound = sound; passed = omega arith; seq = t .seq; turns = subst (λ z. turnsOf z < 4294967295) (sym (t .task)) (t .turns) }))
+    (λ α δ. given 𝓤 (
+      t .inside,
+      record {
+        sound = sound;
+        passed = omega arith;
+        seq = t .seq;
+        turns = subst
+            (λ z. turnsOf z < 4294967295) (sym (t .task)) (t .turns);
+      },
+    ))
     (λ α δ z ws. unit-said 𝓤) (λ _ l.
     gets ! answer-is (answerBy f k) ((tt, tt, refl), tt) (given 𝓤 (t .turns)) (λ z ws. id⊢ 𝓤 _) (λ _.
     gets ! accepted-is o ((tt, tt, refl), tt) (given 𝓤 (t .allows .room)) (λ z ws. id⊢ 𝓤 _) (λ is.
