@@ -5,13 +5,15 @@ use mathlib.Core.Bool.{Bool, true, false, cond, not, _&&_, _||_}
 use mathlib.Core.List.{List, [], _∷_}
 use mathlib.Core.Option.{Option, none, some}
 use lib.Dec.{eqb, ltb}
-use Rattle.snapshot.specs.Refusals.{Cause}
+use Rattle.snapshot.specs.Refusals.{Cause, firstCause}
+use Rattle.snapshot.specs.Requests.{numberIn}
 use Rattle.snapshot.specs.Days.{outside, isFull, cannotArise}
 use Rattle.snapshot.specs.declared.Day.{Day}
 use Rattle.snapshot.specs.declared.Request.{Request}
 use Rattle.snapshot.specs.declared.Refusal.{Refusal}
 use Rattle.snapshot.specs.declared.Refusal.the-variants.{CountRange, ProcessRange, Busy, Idle, DayFull, LentSize}
 use Rattle.snapshot.specs.declared.Refusal.the-variants.{OpenState, CannotArise}
+use Rattle.admission.specs.declared.Survey.{Survey}
 use Rattle.admission.specs.declared.Check.{Check}
 use Rattle.admission.specs.declared.Check.the-variants.{Passed, Refused}
 use Rattle.admission.specs.Requests.{isCall}
@@ -51,3 +53,13 @@ wrongState x idle = cond (isCall x) (not idle, Busy) (idle, Idle)
 -- ".. then 3 or 4, then 5"
 abbrev pub lastCauses : (event : ℕ) → Request → (idle : Bool) → List Cause
 lastCauses event x idle = wrongState x idle ∷ (isFull event, DayFull) ∷ []
+
+-- the refusal of each check: of an opening for k processes, and the first and the last of a call or a turn, by the survey
+abbrev pub openingRefusal : Day → (size k : ℕ) → Option Refusal
+openingRefusal day size k = firstCause (openingChecks day size k)
+
+abbrev pub firstRefusal : Day → (size : ℕ) → Survey → Request → (words : ℕ) → Option Refusal
+firstRefusal day size s x words = firstCause (firstCauses day size (isShort day words x) (s .bad) (numberIn x))
+
+abbrev pub lastRefusal : Survey → Request → (idle : Bool) → Option Refusal
+lastRefusal s x idle = firstCause (lastCauses (s .event) x idle)

@@ -10,10 +10,8 @@ use snapshot::number_in;
 ghost use mathlib.Core.Path.{_≡_};
 ghost use mathlib.Core.Bool.{cond};
 ghost use mathlib.Core.Option.{some};
-ghost use Rattle.snapshot.specs.Refusals.{firstCause};
-ghost use Rattle.snapshot.specs.Requests.{numberIn};
 ghost use Rattle.snapshot.specs.Days.{outside, cannotArise};
-ghost use Rattle.admission.specs.Checks.{asOption, isRefusal, openingChecks, isShort, firstCauses, lastCauses};
+ghost use Rattle.admission.specs.Checks.{asOption, isRefusal, isShort, openingRefusal, firstRefusal, lastRefusal};
 
 // A cause and those after it: its refusal where it holds, else theirs.
 fn cause(holds: bool, k: Refusal, rest: Check) -> Check
@@ -60,7 +58,7 @@ fn is_short(day: Day, words: usize, x: Request) -> bool
 
 // The refusals of an opening for k processes: 10, 1, 6.
 pub fn opening_check(day: Day, size: usize, k: u32) -> Check
-    ensures { λ c. ⌜ asOption c ≡ firstCause (openingChecks day size k) ⌝ }
+    ensures { λ c. ⌜ asOption c ≡ openingRefusal day size k ⌝ }
 {
     cause(
         day.count != 0,
@@ -76,7 +74,7 @@ pub fn opening_check(day: Day, size: usize, k: u32) -> Check
 // The first refusals of a call or a turn, by the day, the size of the table, the survey and how many words the page list has:
 // 10, 6, 11, 2.
 pub fn first_check(day: Day, size: usize, s: Survey, x: Request, words: usize) -> Check
-    ensures { λ c. ⌜ asOption c ≡ firstCause (firstCauses day size (isShort day words x) (s .bad) (numberIn x)) ⌝ }
+    ensures { λ c. ⌜ asOption c ≡ firstRefusal day size s x words ⌝ }
 {
     if day.count == 0 {
         return Check::Refused(Refusal::OpenState);
@@ -98,7 +96,7 @@ pub fn first_check(day: Day, size: usize, s: Survey, x: Request, words: usize) -
 
 // The last, by whether the process is idle: 3 or 4, then 5.
 pub fn last_check(s: Survey, x: Request, idle: bool) -> Check
-    ensures { λ c. ⌜ asOption c ≡ firstCause (lastCauses (s .event) x idle) ⌝ }
+    ensures { λ c. ⌜ asOption c ≡ lastRefusal s x idle ⌝ }
 {
     let full = cause(s.event == 65535, Refusal::DayFull, Check::Passed);
     if requests::is_call(x) {

@@ -26,7 +26,7 @@ use Rattle.unbounded.specs.Turns.{foundBy, scanTurn, updateTurn, turned, turned
 use Rattle.snapshot.specs.Days.{State, turnOf, processOf, readFrom, turnBy, accept}
 use Rattle.unbounded.specs.Days.{figure3, stepped}
 use Rattle.memory.specs.Tables.{stateOf, refusalIn}
-use Rattle.memory.proofs.Accepted.{stepped-refused, stepped-accepted, page-fits}
+use Rattle.memory.proofs.Accepted.{stepped-refused, stepped-accepted, page-long}
 use Rattle.days.specs.Asking.{wanted, lentTo, askedPage}
 use Rattle.days.specs.Happenings.{Box, boxAfter, happeningIn, lentIn}
 
@@ -84,7 +84,7 @@ turn-page s d page = go (refusalIn s (turnOf d page)) refl
         let p = processOf (figure3 ascending) s d in
         let read = readFrom (figure3 ascending) (s .table) (reads ascending n (p .task)) .register in
         subst (λ r. length (r .page) ≤ length page) (stepped-accepted s (turnOf d page) q)
-        (turned-page ascending n (s .day .event + 1) read page p (page-fits (s .day) (s .table) page (Turn d) tt tt q) (p .task))
+        (turned-page ascending n (s .day .event + 1) read page p (page-long (s .day) (s .table) page (Turn d) tt tt q) (p .task))
     go (some k) q =
         subst (λ ws. length ws ≤ length page) (stepped-refused s (turnOf d page) (some k) (sym q) tt .2) (le-refl (length page))
 

@@ -2,7 +2,7 @@
 -- check, and what an accepted call or turn leaves.
 use Prim.Native.Nat.{ℕ, _-_, _≤_, _<_}
 use native.Mathlib.Omega.{arith}
-use mathlib.Core.Path.{_≡_, refl, sym, ap, _∙_}
+use mathlib.Core.Path.{_≡_, refl, sym, ap, _∙_, subst}
 use mathlib.Core.Bool.{true, false, not, false≢true}
 use mathlib.Core.List.{List, [], map, foldl}
 use mathlib.Core.Option.{Option, none, some}
@@ -22,24 +22,25 @@ use Rattle.snapshot.specs.declared.Request.the-variants.{Open, Update, Scan, Tu
 use Rattle.snapshot.specs.declared.Answer.the-variants.{Called}
 use Rattle.snapshot.proofs.Lists.{some-of-false}
 use Rattle.admission.specs.Requests.{itemOf, pageAfter, isOpening, isCall}
-use Rattle.admission.specs.Checks.{isRefusal, isShort, firstCauses, lastCauses}
+use Rattle.admission.specs.Checks.{isRefusal, lastCauses}
+use Rattle.admission.specs.Checks.{openingRefusal, firstRefusal, lastRefusal}
 use Rattle.admission.specs.Outcomes.{refusedOutcome, acceptedOutcome, openedOutcome}
 use Rattle.admission.specs.declared.Survey.{Survey}
-use Rattle.admission.proofs.Checked.{refused-some, someBad, Suited, Accepted, accepted-item, accepted-turn}
+use Rattle.admission.proofs.Checked.{opening-checks, refused-some, someBad, Suited, Accepted, accepted-item, accepted-turn}
 use Rattle.admission.proofs.Checked.{first-refuses, first-passes}
 use Rattle.unbounded.specs.declared.Register.{Register}
 use Rattle.unbounded.specs.declared.Process.{Process}
 use Rattle.unbounded.specs.declared.Task.{Task}
 use Rattle.unbounded.specs.declared.Task.the-variants as Tasks
 use Rattle.unbounded.specs.Registers.{ascending}
-use Rattle.unbounded.specs.Processes.{noProcess, zeroProcess, isIdle, begin}
+use Rattle.unbounded.specs.Processes.{noProcess, zeroProcess, isIdle}
 use Rattle.unbounded.specs.Days.{figure3, mostReads, unsound, stepped}
 use Rattle.unbounded_turns.specs.declared.Access.{Access}
 use Rattle.unbounded_turns.specs.declared.Find.{Find}
-use Rattle.unbounded_turns.specs.Accesses.{isReady, accessOf}
-use Rattle.unbounded_turns.specs.Steps.{taskFor, stateBy, answerBy, pageBy}
+use Rattle.unbounded_turns.specs.Accesses.{Admits, isReady, accessOf, callOf, RoomFor}
+use Rattle.unbounded_turns.specs.Steps.{taskFor, begunBy, stateBy, answerBy, pageBy}
 use Rattle.unbounded_turns.specs.Surveys.{surveyOf, surveyedBy}
-use Rattle.unbounded_turns.proofs.Steps.{Accessed, a-read, a-write, turn-is-steps}
+use Rattle.unbounded_turns.proofs.Steps.{access-count, Accessed, a-read, a-write, turn-is-steps}
 use Rattle.unbounded_turns.proofs.Unsound.{survey-is-bad, reads-up-to-8, sound-has-room}
 use Rattle.memory.specs.Tables.{stateOf, outcomeOf, refusalIn, acceptedIn}
 use Rattle.memory.specs.Turning.{TurnAt, readAt, foundAt}
@@ -110,6 +111,9 @@ module _ (page : List ℕ) (r : Result (State Process)) where
 
 -- ---- openings
 
+pub opening-refused : (s : State Process) (k : ℕ) → openingRefusal (s .day) (length (s .table)) k ≡ refusalIn s (openFor k)
+opening-refused s k = opening-checks (figure3 ascending) s k
+
 pub opened-leaves : (s : State Process) (k : ℕ) →
     Leaves (acceptedIn s (openFor k)) (openedOutcome k) (map (λ p. zeroProcess) (s .table)) []
 unfolding accept openedBy
@@ -132,7 +136,7 @@ module _ (day : Day) (ps : List Process) where
 
   module _ (x : Request) (item : T (not (isOpening x))) (words : ℕ) where
     abbrev first : Option Refusal
-    first = firstCause (firstCauses day (length ps) (isShort day words x) (surveyed .bad) (numberIn x))
+    first = firstRefusal day (length ps) surveyed x words
 
     pub plan-refuses : (c : Option Refusal) → c ≡ first → T (isRefusal c) → (page : List ℕ) → length page ≡ words →
         c ≡ refusalIn s (itemOf page x)
@@ -140,7 +144,7 @@ module _ (day : Day) (ps : List Process) where
         let k = refused-some c h in
         k .1
         ∙ sym (first-refuses (figure3 ascending) (λ n. refl) s page x item (surveyed .bad) seen (k .0)
-        (ap (λ w. firstCause (firstCauses day (length ps) (isShort day w x) (surveyed .bad) (numberIn x))) q ∙ sym e ∙ k .1))
+        (ap (firstRefusal day (length ps) surveyed x) q ∙ sym e ∙ k .1))
 
     module _ (passed : first ≡ none) where
       passes : (page : List ℕ) → length page ≡ words →
@@ -149,7 +153,7 @@ module _ (day : Day) (ps : List Process) where
           × Suited (figure3 ascending) s page x
       passes page q =
           first-passes (figure3 ascending) (λ n. refl) s page x item (surveyed .bad) seen
-          (ap (λ w. firstCause (firstCauses day (length ps) (isShort day w x) (surveyed .bad) (numberIn x))) q ∙ passed)
+          (ap (firstRefusal day (length ps) surveyed x) q ∙ passed)
 
       suits : Suited (figure3 ascending) s (replicate words 0) x
       suits = passes (replicate words 0) (length-replicate words 0) .1
@@ -162,10 +166,10 @@ module _ (day : Day) (ps : List Process) where
       plan-inside = let n = suits .among in let l = suits .size in omega arith
 
       pub plan-last : (page : List ℕ) → length page ≡ words →
-          firstCause (lastCauses (surveyed .event) x (isIdle (getD ps (numberIn x - 1) noProcess .task))) ≡ refusalIn s
+          lastRefusal surveyed x (isIdle (getD ps (numberIn x - 1) noProcess .task)) ≡ refusalIn s
           (itemOf page x)
       plan-last page q =
-          ap (λ v. firstCause (lastCauses (v .event) x (isIdle (getD ps (numberIn x - 1) noProcess .task))))
+          ap (λ v. lastRefusal v x (isIdle (getD ps (numberIn x - 1) noProcess .task)))
           (survey-is-bad day ps)
           ∙ sym (passes page q .0)
 
@@ -175,13 +179,16 @@ module _ (day : Day) (ps : List Process) where
     pub admits : Accepted (figure3 ascending) s page x
     admits = accepted-item (figure3 ascending) (λ n. refl) s page x item accepted
 
+    pub admits-day : Admits day
+    admits-day = record { some = admits .opened; small = admits .small; room = admits .room }
+
     pub admits-inside : numberIn x - 1 < length ps
     admits-inside = let n = admits .among in let l = admits .size in omega arith
 
   pub called-leaves : (page : List ℕ) (x : Request) → T (isCall x) → let i = numberIn x - 1 in
       Leaves (acceptedIn s (itemOf page x)) (acceptedOutcome day Called)
-      (set ps i (begin (day .count) (taskFor x) (getD ps i noProcess))) []
-  unfolding accept calledBy advance
+      (set ps i (begunBy (callOf day) (taskFor x) (getD ps i noProcess))) []
+  unfolding accept calledBy advance callOf begunBy
   called-leaves page (Open k) c = absurd c
   called-leaves page (Update d w) c = (refl, refl, refl)
   called-leaves page (Scan d) c = (refl, refl, refl)
@@ -226,7 +233,7 @@ module _ (day : Day) (ps : List Process) where
         (some-of-false (unsound (mostReads (day .count)) (day .event)) ps noProcess (a .sound) i inside) in
         let size = a .size in
         record {
-          allows = record { some = a .opened; small = a .small; room = a .room };
+          allows = admits-day page x item accepted;
           full = omega arith;
           inside = inside;
           task = refl;
@@ -234,8 +241,11 @@ module _ (day : Day) (ps : List Process) where
           turns = few .1;
         }
 
-    pub page-fits : day .count ≤ length page
-    page-fits = accepted-turn (figure3 ascending) s page x item turns (admits page x item accepted) .0
+    pub page-long : day .count ≤ length page
+    page-long = accepted-turn (figure3 ascending) s page x item turns (admits page x item accepted) .0
+
+    pub page-fits : RoomFor (accessOf day (p .task)) page
+    page-fits = subst (λ n. n ≤ length page) (sym (access-count day (p .task))) page-long
 
     busy : isIdle (p .task) ≡ false
     busy = accepted-turn (figure3 ascending) s page x item turns (admits page x item accepted) .1

@@ -10,7 +10,7 @@ use Rattle.unbounded.specs.declared.Task.{Task}
 use Rattle.unbounded.specs.Processes.{noProcess, turnsOf}
 use Rattle.unbounded_turns.specs.declared.Access.{Access}
 use Rattle.unbounded_turns.specs.declared.Find.{Find}
-use Rattle.unbounded_turns.specs.Accesses.{AllowsTurn, Sound, accessOf, registerIn}
+use Rattle.unbounded_turns.specs.Accesses.{Admits, Sound, accessOf, registerIn}
 use Rattle.unbounded_turns.specs.Steps.{findOf}
 
 -- an access within its double collect, a search that passed at most eight processes, and a record with room for one write and one
@@ -23,7 +23,7 @@ pub record Turning (a : Access) (f : Find) (p : Process) : Type 0 where
 
 -- record i of a table for the day's processes, with task k
 pub record TurnAt (day : Day) (ps : List Process) (i : ℕ) (k : Task) : Type 0 where
-  pub allows : AllowsTurn day
+  pub allows : Admits day
   pub full : day .count ≤ length ps
   pub inside : i < length ps
   pub task : getD ps i noProcess .task ≡ k

@@ -1,24 +1,22 @@
 // The records of the lent table: each function takes one out, or lends one on, and asks a function on a record by value
 // (crate `unbounded_turns`). None knows a part of a day, a task or a collect.
 use admission::Survey;
-use snapshot::Day;
 use unbounded::Process;
 use unbounded::Register;
 use unbounded::Task;
 use unbounded_turns::Access;
 use unbounded_turns::Find;
-use unbounded_turns::accesses;
 use unbounded_turns::finds;
 use unbounded_turns::records;
 use unbounded_turns::surveys;
 use unbounded_turns::tasks;
 ghost use mathlib.Core.Path.{_≡_};
 ghost use mathlib.Core.List.{map, foldl};
-ghost use Prim.Native.Nat.{_≤_, _<_};
+ghost use Prim.Native.Nat.{_<_};
 ghost use lib.ListN.{length, getD, set};
-ghost use Rattle.unbounded.specs.Processes.{noProcess, zeroProcess, isIdle, begin};
+ghost use Rattle.unbounded.specs.Processes.{noProcess, zeroProcess, isIdle};
 ghost use Rattle.unbounded_turns.specs.Accesses.{Sound};
-ghost use Rattle.unbounded_turns.specs.Steps.{findOf, stateBy};
+ghost use Rattle.unbounded_turns.specs.Steps.{begunBy, findOf, stateBy};
 ghost use Rattle.unbounded_turns.specs.Surveys.{surveyedBy};
 ghost use Rattle.memory.specs.Turning.{Turning};
 
@@ -78,21 +76,21 @@ pub fn find_at(ps: &[Process], i: usize, a: Access, r: Register) -> Find
     finds::find_page(a, r, ps[i])
 }
 
-// A record with task k and nothing collected, on a day of n processes.
-fn begin_own(p: &mut Process, n: usize, k: Task)
-    requires { ⌜ n ≤ 8 ⌝ }
-    ensures { λ r. ⌜ now (p .exit) ≡ begin n k (now (p .entry)) ⌝ }
+// A record with task k and nothing collected.
+fn begin_own(p: &mut Process, a: Access, k: Task)
+    requires { ⌜ Sound a ⌝ }
+    ensures { λ r. ⌜ now (p .exit) ≡ begunBy a k (now (p .entry)) ⌝ }
 {
-    *p = records::cleared(n, *p);
+    *p = records::begun(a, *p);
     p.task = k;
 }
 
 // The same for record i of the table.
-pub fn begin_at(ps: &mut [Process], i: usize, day: Day, k: Task)
-    requires { ⌜ (i < length (now ps)) × (day .count ≤ 8) ⌝ }
-    ensures { λ r. ⌜ now (ps .exit) ≡ set (now (ps .entry)) i (begin (day .count) k (getD (now (ps .entry)) i noProcess)) ⌝ }
+pub fn begin_at(ps: &mut [Process], i: usize, a: Access, k: Task)
+    requires { ⌜ (i < length (now ps)) × Sound a ⌝ }
+    ensures { λ r. ⌜ now (ps .exit) ≡ set (now (ps .entry)) i (begunBy a k (getD (now (ps .entry)) i noProcess)) ⌝ }
 {
-    begin_own(&mut ps[i], accesses::count_of(day), k);
+    begin_own(&mut ps[i], a, k);
 }
 
 // The turn of one process on its own record: its access read r and found f.
@@ -103,7 +101,7 @@ fn turn_own(p: &mut Process, a: Access, r: Register, f: Find)
     let k = p.task;
     if tasks::ends(k, f) {
         p.register = records::written(a, *p);
-        begin_own(p, accesses::count_in(a), tasks::idle());
+        begin_own(p, a, tasks::idle());
         return;
     }
     *p = records::read(a, r, k, f, *p);

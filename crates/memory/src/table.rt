@@ -20,9 +20,8 @@ ghost use mathlib.Core.Path.{_≡_};
 ghost use mathlib.Core.Bool.{not};
 ghost use mathlib.Core.List.{[]};
 ghost use mathlib.Core.Option.{none};
-ghost use Prim.Native.Nat.{_≤_};
 ghost use lib.Dec.{T};
-ghost use lib.ListN.{length, getD, set, replicate};
+ghost use lib.ListN.{getD, set, replicate};
 ghost use Rattle.snapshot.specs.Days.{openFor, updateCall, scanCall, turnOf};
 ghost use Rattle.unbounded.specs.Processes.{noProcess, zeroProcess};
 ghost use Rattle.unbounded.specs.Registers.{zeroRegister};
@@ -30,7 +29,7 @@ ghost use Rattle.unbounded.specs.Days.{stepped};
 ghost use Rattle.admission.specs.Requests.{itemOf, pageAfter, isOpening, isCall};
 ghost use Rattle.admission.specs.Checks.{asOption};
 ghost use Rattle.admission.specs.Outcomes.{acceptedOutcome};
-ghost use Rattle.unbounded_turns.specs.Accesses.{accessOf, registerIn};
+ghost use Rattle.unbounded_turns.specs.Accesses.{accessOf, RoomFor};
 ghost use Rattle.unbounded_turns.specs.Steps.{nothingFound, stateBy, answerBy, pageBy};
 ghost use Rattle.memory.specs.Tables.{stateOf, outcomeOf, refusalIn, acceptedIn, RefusedBy};
 ghost use Rattle.memory.specs.Turning.{TurnAt, foundAt, readAt};
@@ -63,7 +62,8 @@ fn call(day: Day, ps: &mut [Process], x: Request) -> Outcome
     ensures { λ r. ⌜ r ≡ outcomeOf (acceptedIn (stateOf day (now (ps .entry))) (itemOf [] x)) ⌝ }
     ensures { λ r. ⌜ now (ps .exit) ≡ acceptedIn (stateOf day (now (ps .entry))) (itemOf [] x) .state .table ⌝ }
 {
-    elements::begin_at(ps, requests::index_in(x), day, tasks::task_for(x));
+    let a = accesses::call_of(day);
+    elements::begin_at(ps, requests::index_in(x), a, tasks::task_for(x));
     outcomes::called(day)
 }
 
@@ -81,7 +81,7 @@ fn write_turn(day: Day, ps: &mut [Process], i: usize, k: Task) -> Outcome
 
 // A reading turn of record i, with task k: one register is read.
 fn read_turn(day: Day, ps: &mut [Process], i: usize, k: Task, page: &mut [u32]) -> Outcome
-    requires { ⌜ TurnAt day (now ps) i k × (day .count ≤ length (now page)) ⌝ }
+    requires { ⌜ TurnAt day (now ps) i k × RoomFor (accessOf day k) (now page) ⌝ }
     ensures { λ x. ⌜ x ≡ acceptedOutcome day (answerBy (foundAt day (now (ps .entry)) i k) k) ⌝ }
     ensures { λ x. ⌜ now (ps .exit) ≡ set (now (ps .entry)) i (stateBy (accessOf day k) (readAt day (now (ps .entry)) k) (getD (now (ps .entry)) i noProcess) (foundAt day (now (ps .entry)) i k) k) ⌝ }
     ensures { λ x. ⌜ now (page .exit) ≡ pageBy (accessOf day k) (foundAt day (now (ps .entry)) i k) k (now (page .entry)) ⌝ }

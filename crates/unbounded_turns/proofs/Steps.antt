@@ -29,9 +29,9 @@ use Rattle.unbounded.specs.Days.{figure3}
 use Rattle.unbounded.proofs.Places.{page-of-long}
 use Rattle.unbounded_turns.specs.declared.Access.{Access}
 use Rattle.unbounded_turns.specs.declared.Find.{Find}
-use Rattle.unbounded_turns.specs.Accesses.{isReady, accessOf, registerIn}
+use Rattle.unbounded_turns.specs.Accesses.{callOf, isReady, accessOf, registerIn}
 use Rattle.unbounded_turns.specs.Steps.{decisionFind, findOf, withTask, keepsBy, readBy, endsBy, taskBy, writtenBy, stateBy}
-use Rattle.unbounded_turns.specs.Steps.{answerBy, pageBy}
+use Rattle.unbounded_turns.specs.Steps.{begunBy, answerBy, pageBy}
 use Rattle.unbounded_turns.proofs.Parts.{withRegister, withCollected}
 
 -- a turn in the steps of the code, where it found f
@@ -195,19 +195,23 @@ turn-is-steps day ps d page {r} {f} (a-write q) = writing-is-steps day page (get
 
 -- ---- what a walk stores
 
+pub call-begins : (day : Day) (k : Task) (p : Process) → begunBy (callOf day) k p ≡ begin (day .count) k p
+unfolding callOf begunBy
+call-begins day k p = refl
+
 pub access-count : (day : Day) (k : Task) → accessOf day k .n ≡ day .count
 unfolding accessOf
 access-count day k = refl
 
 -- a call: nothing collected, then the task
-pub begin-then-task : (n : ℕ) (k : Task) (p : Process) → withTask k (begin n (p .task) p) ≡ begin n k p
-unfolding begin
-begin-then-task n k p = refl
+pub begun-then-task : (a : Access) (k : Task) (p : Process) → withTask k (begunBy a (p .task) p) ≡ begunBy a k p
+unfolding begunBy begin
+begun-then-task a k p = refl
 
 module _ (a : Access) (r : Register) (p : Process) (f : Find) (k : Task) where
   -- a turn that ends its task: the register, then no task and nothing collected
-  pub state-ended : endsBy f k ≡ true → begin (a .n) Idle (withRegister (writtenBy a p k) p) ≡ stateBy a r p f k
-  unfolding stateBy begin
+  pub state-ended : endsBy f k ≡ true → begunBy a Idle (withRegister (writtenBy a p k) p) ≡ stateBy a r p f k
+  unfolding stateBy begunBy begin
   state-ended e = rw e
 
   -- any other: the read, then the task

@@ -2,7 +2,7 @@
 use Prim.Native.Nat.{ℕ, _+_, _*_, _≤_, _<_}
 use mathlib.Core.Bool.{Bool, true, false}
 use mathlib.Core.List.{List}
-use lib.ListN.{getD}
+use lib.ListN.{length, getD}
 use Rattle.snapshot.specs.declared.Day.{Day}
 use Rattle.unbounded.specs.declared.Register.{Register}
 use Rattle.unbounded.specs.declared.Process.{Process}
@@ -19,8 +19,8 @@ isReady (Scan t) = false
 isReady (Update w t) = false
 isReady (Ready w at t) = true
 
--- a day of 1 to 8 processes that is not full: what 10, 11 and 5 leave of a day that is asked for a turn
-pub record AllowsTurn (day : Day) : Type 0 where
+-- a day of 1 to 8 processes that is not full: what 10, 11 and 5 leave of a day that is asked for a call or a turn
+pub record Admits (day : Day) : Type 0 where
   pub some : 0 < day .count
   pub small : day .count ≤ 8
   pub room : day .event < 65535
@@ -36,12 +36,24 @@ nextPosition n (Ready w at t) = 0
 unfoldable pub accessOf : Day → Task → Access
 accessOf day k = record { n = day .count; now = day .event + 1; pos = nextPosition (day .count) k }
 
+-- what a call goes by, which reads no register
+unfoldable pub callOf : Day → Access
+callOf day = record { n = day .count; now = day .event + 1; pos = 0 }
+
 -- an access of 1 to 8 processes, within its double collect
 pub record Sound (a : Access) : Type 0 where
   pub some : 0 < a .n
   pub small : a .n ≤ 8
   pub within : a .pos < 2 * a .n
 
--- the register that an access reads in a table
+-- the record whose register an access reads
+abbrev pub readsIn : Access → ℕ
+readsIn a = placeAt (a .n) (a .pos)
+
+-- that register in a table
 abbrev pub registerIn : Access → List Process → Register
-registerIn a ps = getD ps (placeAt (a .n) (a .pos)) noProcess .register
+registerIn a ps = getD ps (readsIn a) noProcess .register
+
+-- a page list has room for the page that an access may find
+abbrev pub RoomFor : Access → List ℕ → Type 0
+RoomFor a page = a .n ≤ length page

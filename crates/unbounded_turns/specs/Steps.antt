@@ -17,7 +17,7 @@ use Rattle.unbounded.specs.declared.Process.{Process}
 use Rattle.unbounded.specs.declared.Task.{Task}
 use Rattle.unbounded.specs.declared.Task.the-variants.{Idle, Scan, Update, Ready}
 use Rattle.unbounded.specs.Registers.{ascending, collectedAt, pageOf, differs}
-use Rattle.unbounded.specs.Processes.{emptied}
+use Rattle.unbounded.specs.Processes.{emptied, begin}
 use Rattle.unbounded.specs.Turns.{firstAfter, secondAfter, endAfter, decision, written}
 use Rattle.unbounded_turns.specs.declared.Access.{Access}
 use Rattle.unbounded_turns.specs.declared.Find.{Find}
@@ -74,6 +74,10 @@ withTask k p =
       view = p .view;
       moved = p .moved;
     }
+
+-- p once a task k is begun, or ended with none: nothing is collected
+unfoldable pub begunBy : Access → Task → Process → Process
+begunBy a k p = begin (a .n) k p
 
 -- whether a task keeps the page that a turn found: an update does
 abbrev pub keepsBy : Find → Task → Bool

@@ -4,8 +4,8 @@ use snapshot::Day;
 use unbounded::Task;
 ghost use mathlib.Core.Path.{_≡_};
 ghost use Prim.Native.Nat.{_*_, _≤_, _<_};
-ghost use Rattle.unbounded.specs.Turns.{position, placeAt};
-ghost use Rattle.unbounded_turns.specs.Accesses.{isReady, AllowsTurn, Sound, nextPosition, accessOf};
+ghost use Rattle.unbounded.specs.Turns.{position};
+ghost use Rattle.unbounded_turns.specs.Accesses.{isReady, Admits, Sound, nextPosition, accessOf, callOf, readsIn};
 
 // Whether a task is an update that is ready to write: its next turn reads no register.
 pub fn is_ready(k: Task) -> bool
@@ -51,7 +51,7 @@ fn next_position(n: usize, k: Task) -> usize
 
 // What the next turn of a task goes by.
 pub fn access_of(day: Day, k: Task) -> Access
-    requires { ⌜ AllowsTurn day ⌝ }
+    requires { ⌜ Admits day ⌝ }
     ensures { λ a. ⌜ a ≡ accessOf day k ⌝ }
     ensures { λ a. ⌜ Sound a ⌝ }
 {
@@ -66,21 +66,19 @@ pub fn access_of(day: Day, k: Task) -> Access
 // The place of a turn's read in its collect, which is the record that it reads.
 pub fn place_of(a: Access) -> usize
     requires { ⌜ Sound a ⌝ }
-    ensures { λ r. ⌜ r ≡ placeAt (a .n) (a .pos) ⌝ }
+    ensures { λ r. ⌜ r ≡ readsIn a ⌝ }
     ensures { λ r. ⌜ r < a .n ⌝ }
 {
     if a.pos < a.n { a.pos } else { a.pos - a.n }
 }
 
-// How many processes a day has, and how many the day of an access.
-pub fn count_of(day: Day) -> usize
-    ensures { λ n. ⌜ n ≡ day .count ⌝ }
+// What a call goes by.
+pub fn call_of(day: Day) -> Access
+    requires { ⌜ Admits day ⌝ }
+    ensures { λ a. ⌜ a ≡ callOf day ⌝ }
+    ensures { λ a. ⌜ Sound a ⌝ }
 {
-    day.count as usize
-}
-
-pub fn count_in(a: Access) -> usize
-    ensures { λ n. ⌜ n ≡ a .n ⌝ }
-{
-    a.n
+    let n = day.count as usize;
+    let now = day.event + 1;
+    Access { n, now, pos: 0 }
 }

@@ -9,11 +9,10 @@ use unbounded::Task;
 ghost use mathlib.Core.Path.{_≡_};
 ghost use mathlib.Core.Option.{some};
 ghost use Prim.Native.Nat.{_≤_};
-ghost use lib.ListN.{length};
 ghost use Rattle.snapshot.specs.Verdict.{verdict};
 ghost use Rattle.snapshot.specs.Marks.{lends};
 ghost use Rattle.unbounded.specs.Registers.{ascending, differs};
-ghost use Rattle.unbounded_turns.specs.Accesses.{Sound};
+ghost use Rattle.unbounded_turns.specs.Accesses.{Sound, RoomFor};
 ghost use Rattle.unbounded_turns.specs.Steps.{nothingFound, decisionFind, findOf, pageBy};
 
 // Nothing found; the search for a lender passed k processes.
@@ -87,7 +86,7 @@ pub fn find_page(a: Access, r: Register, p: Process) -> Find
 
 // The words of a page that a scan found, laid over the first n of the page list; any other turn leaves the list.
 pub fn lay_page(a: Access, k: Task, f: Find, page: &mut [u32])
-    requires { ⌜ Sound a × (a .n ≤ length (now page)) ⌝ }
+    requires { ⌜ Sound a × RoomFor a (now page) ⌝ }
     ensures { λ r. ⌜ now (page .exit) ≡ pageBy a f k (now (page .entry)) ⌝ }
 {
     let n = a.n;

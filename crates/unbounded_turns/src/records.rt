@@ -10,10 +10,10 @@ use unbounded::Register;
 use unbounded::Task;
 ghost use mathlib.Core.Path.{_≡_};
 ghost use Prim.Native.Nat.{_≤_, _<_};
-ghost use Rattle.unbounded.specs.Processes.{isIdle, zeroProcess, begin};
+ghost use Rattle.unbounded.specs.Processes.{isIdle, zeroProcess};
 ghost use Rattle.unbounded.specs.Turns.{endAfter};
 ghost use Rattle.unbounded_turns.specs.Accesses.{Sound};
-ghost use Rattle.unbounded_turns.specs.Steps.{readBy, writtenBy};
+ghost use Rattle.unbounded_turns.specs.Steps.{begunBy, readBy, writtenBy};
 
 // A record in which every number is 0, and which is idle.
 pub fn zero() -> Process
@@ -62,19 +62,20 @@ pub fn rests(p: Process) -> bool
     }
 }
 
-// The record with nothing collected, on a day of n processes.
-pub fn cleared(n: usize, p: Process) -> Process
-    requires { ⌜ n ≤ 8 ⌝ }
-    ensures { λ q. ⌜ q ≡ begin n (p .task) p ⌝ }
+// The record with nothing collected, as a call begins a task and the end of one leaves it.
+pub fn begun(a: Access, p: Process) -> Process
+    requires { ⌜ Sound a ⌝ }
+    ensures { λ q. ⌜ q ≡ begunBy a (p .task) p ⌝ }
 {
+    let n = a.n;
     let none = collects::no_register();
     let mut q = p;
     let mut i = 0;
     while i < n {
-        let a = q.first[i];
-        let b = q.second[i];
-        q.first[i] = collects::lay(n, none, a);
-        q.second[i] = collects::lay(n, none, b);
+        let first = q.first[i];
+        let second = q.second[i];
+        q.first[i] = collects::lay(n, none, first);
+        q.second[i] = collects::lay(n, none, second);
         q.view[i] = 0;
         i += 1;
     }

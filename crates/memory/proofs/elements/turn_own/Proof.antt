@@ -2,14 +2,13 @@
 -- task.
 use mathlib.Core.Path.{refl}
 use mathlib.Core.List.{List, [], _∷_}
-use Rattle.walks.proofs.Walking.{ !, Param, value, own, a-usize, a-bool, a-unit, thin, _▹_, begins-own, reads-whole, reads-field}
-use Rattle.walks.proofs.Walking.{gets, if-leaves}
+use Rattle.walks.proofs.Walking.{ !, Param, value, own, a-bool, a-unit, thin, _▹_, begins-own, reads-whole, reads-field, gets}
+use Rattle.walks.proofs.Walking.{if-leaves}
 use Rattle.walks.proofs.Walking.{stores-whole, stores-field, lends-element, calls-on, unit-stored, ends-own, callee, given}
 use Rattle.walks.proofs.Walking.{asks-nothing, unit-said, id⊢}
 use lib.Ieee.Bits.{is-true, is-false}
-use Rattle.unbounded.specs.Processes.{begin}
 use Rattle.unbounded.specs.declared.Task.the-variants.{Idle}
-use Rattle.unbounded_turns.specs.Steps.{readBy, writtenBy, endsBy, taskBy, withTask}
+use Rattle.unbounded_turns.specs.Steps.{begunBy, readBy, writtenBy, endsBy, taskBy, withTask}
 use Rattle.unbounded_turns.proofs.Steps.{state-ended, state-went-on}
 use Rattle.unbounded_turns.proofs.Parts.{withRegister}
 use Rattle.memory.specs.Turning.{Turning}
@@ -18,8 +17,6 @@ use Rattle.unbounded_turns.proofs.tasks.ends as ends
 use Rattle.unbounded_turns.proofs.tasks.ends.Met as ends-met
 use Rattle.unbounded_turns.proofs.records.written as written
 use Rattle.unbounded_turns.proofs.records.written.Met as written-met
-use Rattle.unbounded_turns.proofs.accesses.count_in as count
-use Rattle.unbounded_turns.proofs.accesses.count_in.Met as count-met
 use Rattle.memory.proofs.elements.begin_own as begin-own
 use Rattle.memory.proofs.elements.begin_own.Met as begin-own-met
 use Rattle.unbounded_turns.proofs.tasks.idle as idle
@@ -45,9 +42,7 @@ turn-own-spec 𝓤 H 𝓜 𝓖 𝓡 =
     let written-is = callee 𝓤 H 𝓜 𝓖 𝓡 code.env (value an-access ∷ value a-process ∷ []) a-register
     code.calls-unbounded-turns·records·written
     (written.clauses 𝓤 H (𝓖 .A) (𝓜 .mem) (𝓡 .run)) (λ κs a. tt) (written-met.met 𝓤 H 𝓜 𝓖 𝓡) in
-    let count-is = callee 𝓤 H 𝓜 𝓖 𝓡 code.env (value an-access ∷ []) a-usize code.calls-unbounded-turns·accesses·count-in
-    (count.clauses 𝓤 H (𝓖 .A) (𝓜 .mem) (𝓡 .run)) (λ κs a. tt) (count-met.met 𝓤 H 𝓜 𝓖 𝓡) in
-    let begin-own-is = callee 𝓤 H 𝓜 𝓖 𝓡 code.env (own 0 tt a-process ∷ value a-usize ∷ value a-task ∷ []) a-unit
+    let begin-own-is = callee 𝓤 H 𝓜 𝓖 𝓡 code.env (own 0 tt a-process ∷ value an-access ∷ value a-task ∷ []) a-unit
     code.calls-memory·elements·begin-own
     (begin-own.clauses 𝓤 H (𝓖 .A) (𝓜 .mem) (𝓡 .run)) (λ κs a. tt) (begin-own-met.met 𝓤 H 𝓜 𝓖 𝓡) in
     let idle-is = callee 𝓤 H 𝓜 𝓖 𝓡 code.env [] a-task code.calls-unbounded-turns·tasks·idle
@@ -66,7 +61,7 @@ turn-own-spec 𝓤 H 𝓜 𝓖 𝓡 =
     let k = p .task in
     let w = writtenBy g p k in
     let q = withRegister w p in
-    let e = begin (g .n) Idle q in
+    let e = begunBy g Idle q in
     let s = readBy g r p f k in
     begins-own ! a-process x (Turning g f p) (id⊢ 𝓤 _) (λ asked p-is.
     reads-field ! a-process a-task task-field p p-is refl (tt, refl) ▹
@@ -77,14 +72,13 @@ turn-own-spec 𝓤 H 𝓜 𝓖 𝓡 =
     gets ! written-is w ((tt, tt, refl), tt) (given 𝓤 (asked .sound .small, asked .seq)) (λ z ws. id⊢ 𝓤 _) (λ w-is.
     stores-field ! a-process a-register register-field p refl refl tt ▹
     lends-element ! a-process refl (tt, tt) ▹
-    gets ! count-is (g .n) ((tt, tt, refl), tt) (asks-nothing 𝓤) (λ z ws. id⊢ 𝓤 _) (λ _.
     gets ! idle-is Idle ((tt, tt, refl), tt) (asks-nothing 𝓤) (λ z ws. id⊢ 𝓤 _) (λ _.
     calls-on ! a-process (x .ptr .0) (x .ptr .1) q e (register-field .fine-with w p w-is p-is) begin-own-is tt (tt, tt, refl)
-    (λ α δ. (refl, tt)) (λ α δ. given 𝓤 (asked .sound .small)) (λ α δ z ws. unit-said 𝓤) (λ _ e-is.
+    (λ α δ. (refl, tt)) (λ α δ. given 𝓤 (asked .sound)) (λ α δ z ws. unit-said 𝓤) (λ _ e-is.
     unit-stored ! (tt, refl) ▹
     ends-own ! ps a-unit c a h tt refl a-process x e e-is
     (e, (tt, (tt, (tt, tt)))) (refl, refl, tt, refl) (tt, (tt, (tt, (tt, tt))))
-    (given 𝓤 (state-ended g r p f k (is-true (endsBy f k) ended))))))))
+    (given 𝓤 (state-ended g r p f k (is-true (endsBy f k) ended)))))))
     (λ goes-on.
     reads-whole ! a-process p p-is refl (tt, refl) ▹
     gets ! read-is s ((tt, tt, refl), tt) (given 𝓤 (asked .sound, asked .passed)) (λ z ws. id⊢ 𝓤 _) (λ s-is.

@@ -5,18 +5,21 @@ use mathlib.Core.List.{List, [], _∷_}
 use mathlib.Core.Option.{none}
 use lib.Dec.{T}
 use lib.ListN.{getD, set}
-use Rattle.walks.proofs.Walking.{ !, Param, value, lent, a-usize, a-unit, thin, _▹_, begins-lent, lends-again, gets, calls-lent}
-use Rattle.walks.proofs.Walking.{ends-lent}
-use Rattle.walks.proofs.Walking.{callee, asks-nothing, given, two-given, unit-said, id⊢}
+use Rattle.walks.proofs.Walking.{ !, Param, value, lent, a-usize, a-unit, thin, _▹_, begins-lent, lends-again, gets, gets-also}
+use Rattle.walks.proofs.Walking.{calls-lent, ends-lent}
+use Rattle.walks.proofs.Walking.{callee, asks-nothing, given, two-given, two-said, unit-said, id⊢}
 use Rattle.snapshot.specs.Requests.{numberIn}
 use Rattle.snapshot.specs.declared.Answer.the-variants.{Called}
-use Rattle.unbounded.specs.Processes.{noProcess, begin}
-use Rattle.unbounded_turns.specs.Steps.{taskFor}
+use Rattle.unbounded.specs.Processes.{noProcess}
+use Rattle.unbounded_turns.specs.Accesses.{Sound, callOf}
+use Rattle.unbounded_turns.specs.Steps.{taskFor, begunBy}
 use Rattle.admission.specs.Requests.{itemOf, isCall}
 use Rattle.admission.specs.Outcomes.{acceptedOutcome}
 use Rattle.memory.specs.Tables.{stateOf, refusalIn}
-use Rattle.memory.proofs.Types.{a-process, a-task, a-day, a-request, an-outcome}
-use Rattle.memory.proofs.Accepted.{call-item, admits, admits-inside, called-leaves}
+use Rattle.memory.proofs.Types.{a-process, a-task, an-access, a-day, a-request, an-outcome}
+use Rattle.memory.proofs.Accepted.{call-item, admits, admits-day, admits-inside, called-leaves}
+use Rattle.unbounded_turns.proofs.accesses.call_of as goes-by
+use Rattle.unbounded_turns.proofs.accesses.call_of.Met as goes-by-met
 use Rattle.admission.proofs.requests.index_in as index
 use Rattle.admission.proofs.requests.index_in.Met as index-met
 use Rattle.unbounded_turns.proofs.tasks.task_for as task
@@ -37,11 +40,13 @@ pub call-spec : {M : Type 1} → stated.statement M
 unfolding code.routine
 call-spec 𝓤 H 𝓜 𝓖 𝓡 =
     let c = f.clauses 𝓤 H (𝓖 .A) (𝓜 .mem) (𝓡 .run) in
+    let goes-by-is = callee 𝓤 H 𝓜 𝓖 𝓡 code.env (value a-day ∷ []) an-access code.calls-unbounded-turns·accesses·call-of
+    (goes-by.clauses 𝓤 H (𝓖 .A) (𝓜 .mem) (𝓡 .run)) (λ κs a. tt) (goes-by-met.met 𝓤 H 𝓜 𝓖 𝓡) in
     let index-is = callee 𝓤 H 𝓜 𝓖 𝓡 code.env (value a-request ∷ []) a-usize code.calls-admission·requests·index-in
     (index.clauses 𝓤 H (𝓖 .A) (𝓜 .mem) (𝓡 .run)) (λ κs a. tt) (index-met.met 𝓤 H 𝓜 𝓖 𝓡) in
     let task-is = callee 𝓤 H 𝓜 𝓖 𝓡 code.env (value a-request ∷ []) a-task code.calls-unbounded-turns·tasks·task-for
     (task.clauses 𝓤 H (𝓖 .A) (𝓜 .mem) (𝓡 .run)) (λ κs a. tt) (task-met.met 𝓤 H 𝓜 𝓖 𝓡) in
-    let begins-is = callee 𝓤 H 𝓜 𝓖 𝓡 code.env (lent 0 tt a-process ∷ value a-usize ∷ value a-day ∷ value a-task ∷ []) a-unit
+    let begins-is = callee 𝓤 H 𝓜 𝓖 𝓡 code.env (lent 0 tt a-process ∷ value a-usize ∷ value an-access ∷ value a-task ∷ []) a-unit
     code.calls-memory·elements·begin-at
     (begins.clauses 𝓤 H (𝓖 .A) (𝓜 .mem) (𝓡 .run)) (λ κs a. tt) (begins-met.met 𝓤 H 𝓜 𝓖 𝓡) in
     let called-is = callee 𝓤 H 𝓜 𝓖 𝓡 code.env (value a-day ∷ []) an-outcome code.calls-admission·outcomes·called
@@ -51,17 +56,19 @@ call-spec 𝓤 H 𝓜 𝓖 𝓡 =
     let x = a .1 .0 in
     let r = a .1 .1 .0 in
     let i = numberIn r - 1 in
-    let us = set (x .now) i (begin (day .count) (taskFor r) (getD (x .now) i noProcess)) in
+    let us = set (x .now) i (begunBy (callOf day) (taskFor r) (getD (x .now) i noProcess)) in
     let o = acceptedOutcome day Called in
     begins-lent ! a-process x (T (isCall r) × (refusalIn (stateOf day (x .now)) (itemOf [] r) ≡ none)) (id⊢ 𝓤 _) (λ asked.
     let item = call-item r (asked .0) in
     let known = admits day (x .now) [] r item (asked .1) in
     let left = called-leaves day (x .now) [] r (asked .0) in
+    gets-also ! goes-by-is (callOf day) ((tt, tt, refl), tt) (given 𝓤 (admits-day day (x .now) [] r item (asked .1))) Sound
+    (λ z ws. two-said 𝓤) (λ sound _.
     lends-again ! refl refl refl (tt, tt) ▹
     gets ! index-is i ((tt, tt, refl), tt) (given 𝓤 (known .among .0)) (λ z ws. id⊢ 𝓤 _) (λ _.
     gets ! task-is (taskFor r) ((tt, tt, refl), tt) (asks-nothing 𝓤) (λ z ws. id⊢ 𝓤 _) (λ _.
     calls-lent ! a-process (x .ptr .0) (x .ptr .1) (x .now) us (are .1 .0 .0 .1) begins-is tt (tt, tt, refl) (λ α δ. (refl, tt))
-    (λ α δ. given 𝓤 (admits-inside day (x .now) [] r item (asked .1), known .small)) (λ α δ z ws. unit-said 𝓤) (λ _ l.
+    (λ α δ. given 𝓤 (admits-inside day (x .now) [] r item (asked .1), sound)) (λ α δ z ws. unit-said 𝓤) (λ _ l.
     gets ! called-is o ((tt, tt, refl), tt) (given 𝓤 (known .room)) (λ z ws. id⊢ 𝓤 _) (λ is.
     ends-lent ! ps an-outcome c a h o is a-process x us (are .1 .0 .0 .1) l
-    (tt, (us, (tt, tt))) (refl, refl, tt, refl) (tt, (l, (tt, tt))) (two-given 𝓤 (left .0) (left .1))))))))
+    (tt, (us, (tt, tt))) (refl, refl, tt, refl) (tt, (l, (tt, tt))) (two-given 𝓤 (left .0) (left .1)))))))))

@@ -6,17 +6,14 @@ use Rattle.walks.proofs.Walking.{ !, Param, value, lent, a-usize, a-u32, a-bool
 use Rattle.walks.proofs.Walking.{gets-some, if-leaves}
 use Rattle.walks.proofs.Walking.{lends-again, calls-lent, ends-lent, callee, nothing-asked, asks-nothing, unit-said, two-given}
 use Rattle.walks.proofs.Walking.{id⊢}
-use Rattle.snapshot.specs.Refusals.{firstCause}
 use Rattle.snapshot.specs.Days.{openFor}
-use Rattle.unbounded.specs.Registers.{ascending}
 use Rattle.unbounded.specs.Processes.{zeroProcess}
-use Rattle.unbounded.specs.Days.{figure3}
-use Rattle.admission.specs.Checks.{asOption, isRefusal, openingChecks}
+use Rattle.admission.specs.Checks.{asOption, isRefusal, openingRefusal}
 use Rattle.admission.specs.Outcomes.{refusedOutcome, openedOutcome}
-use Rattle.admission.proofs.Checked.{passed-none, opening-checks}
+use Rattle.admission.proofs.Checked.{passed-none}
 use Rattle.memory.specs.Tables.{stateOf, outcomeOf}
 use Rattle.memory.proofs.Types.{a-process, a-check, a-day, an-outcome}
-use Rattle.memory.proofs.Accepted.{stepped-refused, stepped-accepted, opened-leaves}
+use Rattle.memory.proofs.Accepted.{opening-refused, stepped-refused, stepped-accepted, opened-leaves}
 use Rattle.admission.proofs.checks.opening_check as check
 use Rattle.admission.proofs.checks.opening_check.Met as check-met
 use Rattle.admission.proofs.checks.is_refused as is-refused
@@ -58,9 +55,9 @@ open-spec 𝓤 H 𝓜 𝓖 𝓡 =
     let zs = map (λ p. zeroProcess) (x .now) in
     begins-lent ! a-process x _ (nothing-asked 𝓤) (λ _.
     counts ! refl refl (tt, refl) ▹
-    gets-some ! check-is ((tt, tt, refl), tt) (asks-nothing 𝓤)
-    (λ z. asOption z ≡ firstCause (openingChecks day (length (x .now)) k)) (λ z ws. id⊢ 𝓤 _) (λ z e is.
-    let q = e ∙ opening-checks (figure3 ascending) s k in
+    gets-some ! check-is ((tt, tt, refl), tt) (asks-nothing 𝓤) (λ z. asOption z ≡ openingRefusal day (length (x .now)) k)
+    (λ z ws. id⊢ 𝓤 _) (λ z e is.
+    let q = e ∙ opening-refused s k in
     gets ! is-refused-is (isRefusal (asOption z)) ((tt, tt, refl), tt) (asks-nothing 𝓤) (λ r ws. id⊢ 𝓤 _) (λ _.
     if-leaves ! refl tt
     (λ h₁.

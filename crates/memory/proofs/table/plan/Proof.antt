@@ -8,12 +8,11 @@ use lib.ListN.{length, getD}
 use Rattle.walks.proofs.Walking.{ !, Param, value, shared, a-usize, a-bool, thin, _▹_, begins-shared, gets, gets-some}
 use Rattle.walks.proofs.Walking.{calls-passed-is}
 use Rattle.walks.proofs.Walking.{counts, copies, if-leaves, ends-shared, callee, asks-nothing, given, id⊢}
-use Rattle.snapshot.specs.Refusals.{firstCause}
 use Rattle.snapshot.specs.Requests.{numberIn}
 use Rattle.unbounded.specs.Processes.{noProcess, isIdle}
 use Rattle.unbounded_turns.specs.Surveys.{surveyOf, surveyedBy}
 use Rattle.admission.specs.Requests.{isOpening}
-use Rattle.admission.specs.Checks.{asOption, isRefusal, isShort, firstCauses, lastCauses}
+use Rattle.admission.specs.Checks.{asOption, isRefusal, firstRefusal, lastRefusal}
 use Rattle.admission.proofs.Checked.{passed-none}
 use Rattle.memory.proofs.Types.{a-process, a-survey, a-check, a-day, a-request}
 use Rattle.memory.proofs.Accepted.{plan-refuses, plan-number, plan-inside, plan-last}
@@ -75,8 +74,7 @@ plan-spec 𝓤 H 𝓜 𝓖 𝓡 =
     ((tt, tt, refl), (refl, tt)) (asks-nothing 𝓤) (λ z ws. id⊢ 𝓤 _) (λ _.
     counts ! refl refl (tt, refl) ▹
     gets-some ! first-is ((tt, tt, refl), tt) (asks-nothing 𝓤)
-    (λ z. asOption z ≡ firstCause (firstCauses day (length (x .now)) (isShort day words r) (found .bad) (numberIn r)))
-    (λ z ws. id⊢ 𝓤 _) (λ z e z-is.
+    (λ z. asOption z ≡ firstRefusal day (length (x .now)) found r words) (λ z ws. id⊢ 𝓤 _) (λ z e z-is.
     gets ! is-refused-is (isRefusal (asOption z)) ((tt, tt, refl), tt) (asks-nothing 𝓤) (λ y ws. id⊢ 𝓤 _) (λ _.
     if-leaves ! refl tt
     (λ held.
@@ -89,7 +87,7 @@ plan-spec 𝓤 H 𝓜 𝓖 𝓡 =
     calls-passed-is ! a-process (κs .0) (qs .0) (x .ptr .0) (x .ptr .1) (x .name) (x .now) (are .1 .0 .0 .1) rests-is idle
     ((tt, tt, refl), (refl, tt))
     (given 𝓤 (plan-inside day (x .now) r item words passed)) (λ y ws. id⊢ 𝓤 _) (λ _.
-    gets-some ! last-is ((tt, tt, refl), tt) (asks-nothing 𝓤) (λ y. asOption y ≡ firstCause (lastCauses (found .event) r idle))
-    (λ y ws. id⊢ 𝓤 _) (λ y e′ y-is.
+    gets-some ! last-is ((tt, tt, refl), tt) (asks-nothing 𝓤) (λ y. asOption y ≡ lastRefusal found r idle) (λ y ws. id⊢ 𝓤 _)
+    (λ y e′ y-is.
     ends-shared ! ps a-check c a h y y-is (tt, (tt, (tt, (tt, tt)))) (refl, refl, tt, refl) (tt, (tt, (tt, (tt, tt))))
     (given 𝓤 (λ page q. e′ ∙ plan-last day (x .now) r item words passed page q))))))))))))

@@ -8,8 +8,7 @@ use Rattle.walks.proofs.Walking.{ !, Param, value, shared, lent, a-usize, a-u32
 use Rattle.walks.proofs.Walking.{swaps, gets, gets-also}
 use Rattle.walks.proofs.Walking.{calls-shared-is, calls-lent, ends-two, callee, given, three-given, two-said, unit-said, id⊢}
 use Rattle.unbounded.specs.Processes.{noProcess, turnsOf}
-use Rattle.unbounded.specs.Turns.{placeAt}
-use Rattle.unbounded_turns.specs.Accesses.{Sound, accessOf}
+use Rattle.unbounded_turns.specs.Accesses.{Sound, accessOf, readsIn, RoomFor}
 use Rattle.unbounded_turns.specs.Steps.{stateBy, answerBy, pageBy}
 use Rattle.unbounded_turns.proofs.Steps.{find-passed, access-count}
 use Rattle.admission.specs.Outcomes.{acceptedOutcome}
@@ -81,13 +80,12 @@ read-turn-spec 𝓤 H 𝓜 𝓖 𝓡 =
     let us = set (x .now) i (stateBy g r p f (p .task)) in
     let words = pageBy g f k (y .now) in
     let o = acceptedOutcome day (answerBy f k) in
-    begins-two ! a-process a-u32 x y (TurnAt day (x .now) i k × (day .count ≤ length (y .now))) (id⊢ 𝓤 _) (λ asked.
+    begins-two ! a-process a-u32 x y (TurnAt day (x .now) i k × RoomFor g (y .now)) (id⊢ 𝓤 _) (λ asked.
     let t = asked .0 in
     gets-also ! access-is g ((tt, tt, refl), tt) (given 𝓤 (t .allows)) Sound (λ z ws. two-said 𝓤) (λ sound _.
     let few : g .n ≤ length (x .now) = subst (λ z. z ≤ length (x .now)) (sym n) (t .full) in
     lends-again ! refl refl refl (tt, tt) ▹
-    gets-also ! place-is (placeAt (g .n) (g .pos)) ((tt, tt, refl), tt) (given 𝓤 sound) (λ z. z < g .n) (λ z ws. two-said 𝓤)
-    (λ below _.
+    gets-also ! place-is (readsIn g) ((tt, tt, refl), tt) (given 𝓤 sound) (λ z. z < g .n) (λ z ws. two-said 𝓤) (λ below _.
     calls-shared-is ! a-process (x .ptr .0) (x .ptr .1) (x .now) room register-is r (tt, tt, refl) (λ α δ. (refl, tt))
     (λ α δ. given 𝓤 (lt-of-lt-of-le below few)) (λ α δ z ws. id⊢ 𝓤 _) (λ _.
     lends-again ! refl refl refl (tt, tt) ▹
@@ -96,7 +94,7 @@ read-turn-spec 𝓤 H 𝓜 𝓖 𝓡 =
     lends-again ! refl refl refl (tt, tt) ▹
     swaps ! ▹
     calls-lent ! a-u32 (y .ptr .0) (y .ptr .1) (y .now) words room′ lay-is tt (tt, tt, refl) (λ α δ. (refl, tt))
-    (λ α δ. given 𝓤 (sound, subst (λ z. z ≤ length (y .now)) (sym n) (asked .1))) (λ α δ z ws. unit-said 𝓤) (λ _ l′.
+    (λ α δ. given 𝓤 (sound, asked .1)) (λ α δ z ws. unit-said 𝓤) (λ _ l′.
     swaps ! ▹
     lends-again ! refl refl refl (tt, tt) ▹
     calls-lent ! a-process (x .ptr .0) (x .ptr .1) (x .now) us room turns-is tt (tt, tt, refl) (λ α δ. (refl, tt))

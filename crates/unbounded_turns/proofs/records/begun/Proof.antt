@@ -1,4 +1,4 @@
--- `unbounded_turns::records::cleared` meets its contract: after i turns of the loop, the first i places are clear.
+-- `unbounded_turns::records::begun` meets its contract: after i turns of the loop, the first i places are clear.
 use Prim.Native.Nat.{ℕ, _+_, _≤_, _<_, _-_}
 use mathlib.Core.Path.{_≡_, refl, sym, ap, _∙_}
 use mathlib.Core.Bool.{false}
@@ -12,11 +12,12 @@ use Rattle.unbounded.specs.declared.Process.{Process}
 use Rattle.unbounded.specs.Registers.{noRegister, laid, cleared}
 use Rattle.unbounded.specs.Processes.{begin}
 use Rattle.unbounded.proofs.Register as R
+use Rattle.unbounded_turns.specs.Steps.{begunBy}
 use Rattle.unbounded_turns.proofs.Parts.{withCollected}
 use denote.Struct.Field.{u32-field}
 use borrow.Author.Needs.{needs}
-use Rattle.unbounded_turns.proofs.records.cleared.Statement.{statement}
-use Rattle.unbounded_turns.proofs.records.cleared.Tie as tie
+use Rattle.unbounded_turns.proofs.records.begun.Statement.{statement}
+use Rattle.unbounded_turns.proofs.records.begun.Tie as tie
 
 -- the first i places of p cleared by register z
 abbrev clearedTo : (n i : ℕ) → Register → Process → Process
@@ -71,17 +72,17 @@ no-register-requires c κs = search needs
 loop-holds : tie.Need-loop-holds Inv-loop μ-loop
 loop-holds c = (omega arith, refl)
 
-mul-a : tie.Need-mul-a Inv-loop μ-loop
-mul-a c = search needs
+mul-first : tie.Need-mul-first Inv-loop μ-loop
+mul-first c = search needs
 
-element-copy-out-a : tie.Need-element-copy-out-a Inv-loop μ-loop
-element-copy-out-a c = search needs
+element-copy-out-first : tie.Need-element-copy-out-first Inv-loop μ-loop
+element-copy-out-first c = search needs
 
-mul-b : tie.Need-mul-b Inv-loop μ-loop
-mul-b c = search needs
+mul-second : tie.Need-mul-second Inv-loop μ-loop
+mul-second c = search needs
 
-element-copy-out-b : tie.Need-element-copy-out-b Inv-loop μ-loop
-element-copy-out-b c = search needs
+element-copy-out-second : tie.Need-element-copy-out-second Inv-loop μ-loop
+element-copy-out-second c = search needs
 
 lay-requires : tie.Need-lay-requires Inv-loop μ-loop
 lay-requires c κs = search needs
@@ -95,8 +96,8 @@ element-set-from-q c = search needs
 lay-requires-2 : tie.Need-lay-requires-2 Inv-loop μ-loop
 lay-requires-2 c κs = search needs
 
-mul-t10 : tie.Need-mul-t10 Inv-loop μ-loop
-mul-t10 c = search needs
+mul-t11 : tie.Need-mul-t11 Inv-loop μ-loop
+mul-t11 c = search needs
 
 element-set-from-q-2 : tie.Need-element-set-from-q-2 Inv-loop μ-loop
 element-set-from-q-2 c = search needs
@@ -125,38 +126,38 @@ loop-again c =
     let words = sym (length-map (p .view) (u32-field .into)) ∙ fields .1 .1 .1 .0 .1 .0 .1 in
     let z = c .before .before .before .before .before .before .no-register .result in (
       omega arith,
-      stored-clears (start .args .n) (l .i) z p (l .q) (c .before .lay .result) (c .lay2 .result) (l .inv .1)
+      stored-clears (start .args .a .n) (l .i) z p (l .q) (c .before .lay .result) (c .lay2 .result) (l .inv .1)
           (c .before .lay .ensures) (c .lay2 .ensures) (omega arith)
           (omega (arith, firsts)) (omega (arith, seconds)) (omega (arith, words)),
     )
 
 returns : tie.Need-returns Inv-loop μ-loop
-unfolding begin cleared
+unfolding begin cleared begunBy
 returns c =
     let l = c .before .loop in
     let a = c .before .before .before .args in
-    let all : l .i ≡ a .n = omega arith in
+    let all : l .i ≡ a .a .n = omega arith in
     let z = c .before .before .no-register in
     ap (λ q. withCollected (q .first) (q .second) 0 (q .view) (replicate 8 false) q)
-    (l .inv .1 ∙ (λ t. clearedTo (a .n) (all t) (z .ensures t) (a .p)))
+    (l .inv .1 ∙ (λ t. clearedTo (a .a .n) (all t) (z .ensures t) (a .p)))
 
-pub cleared-spec : {M : Type 1} → statement M
-cleared-spec =
+pub begun-spec : {M : Type 1} → statement M
+begun-spec =
     tie.close
     (tie.spec
     Inv-loop
     μ-loop
     no-register-requires
     loop-holds
-    mul-a
-    element-copy-out-a
-    mul-b
-    element-copy-out-b
+    mul-first
+    element-copy-out-first
+    mul-second
+    element-copy-out-second
     lay-requires
     mul-q
     element-set-from-q
     lay-requires-2
-    mul-t10
+    mul-t11
     element-set-from-q-2
     mul-q-2
     element-write-q
