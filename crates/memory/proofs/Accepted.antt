@@ -37,7 +37,7 @@ use Rattle.unbounded.specs.Processes.{noProcess, zeroProcess, isIdle}
 use Rattle.unbounded.specs.Days.{figure3, mostReads, unsound, stepped}
 use Rattle.unbounded_turns.specs.declared.Access.{Access}
 use Rattle.unbounded_turns.specs.declared.Find.{Find}
-use Rattle.unbounded_turns.specs.Accesses.{Admits, isReady, accessOf, callOf, RoomFor}
+use Rattle.unbounded_turns.specs.Accesses.{Admits, isReady, accessOf, callAccess, RoomFor}
 use Rattle.unbounded_turns.specs.Steps.{taskFor, begunBy, stateBy, answerBy, pageBy}
 use Rattle.unbounded_turns.specs.Surveys.{surveyOf, surveyedBy}
 use Rattle.unbounded_turns.proofs.Steps.{access-count, Accessed, a-read, a-write, turn-is-steps}
@@ -187,8 +187,8 @@ module _ (day : Day) (ps : List Process) where
 
   pub called-leaves : (page : List ℕ) (x : Request) → T (isCall x) → let i = numberIn x - 1 in
       Leaves (acceptedIn s (itemOf page x)) (acceptedOutcome day Called)
-      (set ps i (begunBy (callOf day) (taskFor x) (getD ps i noProcess))) []
-  unfolding accept calledBy advance callOf begunBy
+      (set ps i (begunBy (callAccess day) (taskFor x) (getD ps i noProcess))) []
+  unfolding accept calledBy advance callAccess begunBy
   called-leaves page (Open k) c = absurd c
   called-leaves page (Update d w) c = (refl, refl, refl)
   called-leaves page (Scan d) c = (refl, refl, refl)

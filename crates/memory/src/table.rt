@@ -62,7 +62,7 @@ fn call(day: Day, ps: &mut [Process], x: Request) -> Outcome
     ensures { λ r. ⌜ r ≡ outcomeOf (acceptedIn (stateOf day (now (ps .entry))) (itemOf [] x)) ⌝ }
     ensures { λ r. ⌜ now (ps .exit) ≡ acceptedIn (stateOf day (now (ps .entry))) (itemOf [] x) .state .table ⌝ }
 {
-    let a = accesses::call_of(day);
+    let a = accesses::call_access(day);
     elements::begin_at(ps, requests::index_in(x), a, tasks::task_for(x));
     outcomes::called(day)
 }

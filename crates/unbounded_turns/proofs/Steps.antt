@@ -29,7 +29,7 @@ use Rattle.unbounded.specs.Days.{figure3}
 use Rattle.unbounded.proofs.Places.{page-of-long}
 use Rattle.unbounded_turns.specs.declared.Access.{Access}
 use Rattle.unbounded_turns.specs.declared.Find.{Find}
-use Rattle.unbounded_turns.specs.Accesses.{callOf, isReady, accessOf, registerIn}
+use Rattle.unbounded_turns.specs.Accesses.{callAccess, isReady, accessOf, registerIn}
 use Rattle.unbounded_turns.specs.Steps.{decisionFind, findOf, withTask, keepsBy, readBy, endsBy, taskBy, writtenBy, stateBy}
 use Rattle.unbounded_turns.specs.Steps.{begunBy, answerBy, pageBy}
 use Rattle.unbounded_turns.proofs.Parts.{withRegister, withCollected}
@@ -195,8 +195,8 @@ turn-is-steps day ps d page {r} {f} (a-write q) = writing-is-steps day page (get
 
 -- ---- what a walk stores
 
-pub call-begins : (day : Day) (k : Task) (p : Process) → begunBy (callOf day) k p ≡ begin (day .count) k p
-unfolding callOf begunBy
+pub call-begins : (day : Day) (k : Task) (p : Process) → begunBy (callAccess day) k p ≡ begin (day .count) k p
+unfolding callAccess begunBy
 call-begins day k p = refl
 
 pub access-count : (day : Day) (k : Task) → accessOf day k .n ≡ day .count

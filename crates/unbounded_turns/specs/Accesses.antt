@@ -37,8 +37,8 @@ unfoldable pub accessOf : Day → Task → Access
 accessOf day k = record { n = day .count; now = day .event + 1; pos = nextPosition (day .count) k }
 
 -- what a call goes by, which reads no register
-unfoldable pub callOf : Day → Access
-callOf day = record { n = day .count; now = day .event + 1; pos = 0 }
+unfoldable pub callAccess : Day → Access
+callAccess day = record { n = day .count; now = day .event + 1; pos = 0 }
 
 -- an access of 1 to 8 processes, within its double collect
 pub record Sound (a : Access) : Type 0 where

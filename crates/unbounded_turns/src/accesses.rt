@@ -5,7 +5,7 @@ use unbounded::Task;
 ghost use mathlib.Core.Path.{_≡_};
 ghost use Prim.Native.Nat.{_*_, _≤_, _<_};
 ghost use Rattle.unbounded.specs.Turns.{position};
-ghost use Rattle.unbounded_turns.specs.Accesses.{isReady, Admits, Sound, nextPosition, accessOf, callOf, readsIn};
+ghost use Rattle.unbounded_turns.specs.Accesses.{isReady, Admits, Sound, nextPosition, accessOf, callAccess, readsIn};
 
 // Whether a task is an update that is ready to write: its next turn reads no register.
 pub fn is_ready(k: Task) -> bool
@@ -73,9 +73,9 @@ pub fn place_of(a: Access) -> usize
 }
 
 // What a call goes by.
-pub fn call_of(day: Day) -> Access
+pub fn call_access(day: Day) -> Access
     requires { ⌜ Admits day ⌝ }
-    ensures { λ a. ⌜ a ≡ callOf day ⌝ }
+    ensures { λ a. ⌜ a ≡ callAccess day ⌝ }
     ensures { λ a. ⌜ Sound a ⌝ }
 {
     let n = day.count as usize;

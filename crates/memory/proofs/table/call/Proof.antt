@@ -11,15 +11,15 @@ use Rattle.walks.proofs.Walking.{callee, asks-nothing, given, two-given, two-sa
 use Rattle.snapshot.specs.Requests.{numberIn}
 use Rattle.snapshot.specs.declared.Answer.the-variants.{Called}
 use Rattle.unbounded.specs.Processes.{noProcess}
-use Rattle.unbounded_turns.specs.Accesses.{Sound, callOf}
+use Rattle.unbounded_turns.specs.Accesses.{Sound, callAccess}
 use Rattle.unbounded_turns.specs.Steps.{taskFor, begunBy}
 use Rattle.admission.specs.Requests.{itemOf, isCall}
 use Rattle.admission.specs.Outcomes.{acceptedOutcome}
 use Rattle.memory.specs.Tables.{stateOf, refusalIn}
 use Rattle.memory.proofs.Types.{a-process, a-task, an-access, a-day, a-request, an-outcome}
 use Rattle.memory.proofs.Accepted.{call-item, admits, admits-day, admits-inside, called-leaves}
-use Rattle.unbounded_turns.proofs.accesses.call_of as goes-by
-use Rattle.unbounded_turns.proofs.accesses.call_of.Met as goes-by-met
+use Rattle.unbounded_turns.proofs.accesses.call_access as goes-by
+use Rattle.unbounded_turns.proofs.accesses.call_access.Met as goes-by-met
 use Rattle.admission.proofs.requests.index_in as index
 use Rattle.admission.proofs.requests.index_in.Met as index-met
 use Rattle.unbounded_turns.proofs.tasks.task_for as task
@@ -40,7 +40,7 @@ pub call-spec : {M : Type 1} → stated.statement M
 unfolding code.routine
 call-spec 𝓤 H 𝓜 𝓖 𝓡 =
     let c = f.clauses 𝓤 H (𝓖 .A) (𝓜 .mem) (𝓡 .run) in
-    let goes-by-is = callee 𝓤 H 𝓜 𝓖 𝓡 code.env (value a-day ∷ []) an-access code.calls-unbounded-turns·accesses·call-of
+    let goes-by-is = callee 𝓤 H 𝓜 𝓖 𝓡 code.env (value a-day ∷ []) an-access code.calls-unbounded-turns·accesses·call-access
     (goes-by.clauses 𝓤 H (𝓖 .A) (𝓜 .mem) (𝓡 .run)) (λ κs a. tt) (goes-by-met.met 𝓤 H 𝓜 𝓖 𝓡) in
     let index-is = callee 𝓤 H 𝓜 𝓖 𝓡 code.env (value a-request ∷ []) a-usize code.calls-admission·requests·index-in
     (index.clauses 𝓤 H (𝓖 .A) (𝓜 .mem) (𝓡 .run)) (λ κs a. tt) (index-met.met 𝓤 H 𝓜 𝓖 𝓡) in
@@ -56,13 +56,13 @@ call-spec 𝓤 H 𝓜 𝓖 𝓡 =
     let x = a .1 .0 in
     let r = a .1 .1 .0 in
     let i = numberIn r - 1 in
-    let us = set (x .now) i (begunBy (callOf day) (taskFor r) (getD (x .now) i noProcess)) in
+    let us = set (x .now) i (begunBy (callAccess day) (taskFor r) (getD (x .now) i noProcess)) in
     let o = acceptedOutcome day Called in
     begins-lent ! a-process x (T (isCall r) × (refusalIn (stateOf day (x .now)) (itemOf [] r) ≡ none)) (id⊢ 𝓤 _) (λ asked.
     let item = call-item r (asked .0) in
     let known = admits day (x .now) [] r item (asked .1) in
     let left = called-leaves day (x .now) [] r (asked .0) in
-    gets-also ! goes-by-is (callOf day) ((tt, tt, refl), tt) (given 𝓤 (admits-day day (x .now) [] r item (asked .1))) Sound
+    gets-also ! goes-by-is (callAccess day) ((tt, tt, refl), tt) (given 𝓤 (admits-day day (x .now) [] r item (asked .1))) Sound
     (λ z ws. two-said 𝓤) (λ sound _.
     lends-again ! refl refl refl (tt, tt) ▹
     gets ! index-is i ((tt, tt, refl), tt) (given 𝓤 (known .among .0)) (λ z ws. id⊢ 𝓤 _) (λ _.
