@@ -56,9 +56,12 @@ abbrev pub happenings : Box → List Reading → List Happening
 happenings b [] = []
 happenings b (x ∷ xs) = happeningIn b x ∷ happenings (boxAfter b x) xs
 
--- a whole day file
+-- what happens in a file on a box, and in a whole day file (proofs/Files: it is what happens first, and then what happens in the rest)
+abbrev pub fileOn : Box → List ℕ → List Happening
+fileOn b bs = happenings b (readings bs)
+
 unfoldable pub dayOf : List ℕ → List Happening
-dayOf bs = happenings blankBox (readings bs)
+dayOf bs = fileOn blankBox bs
 
 -- the day once all of it happened, which was d before
 abbrev pub dayAfter : Day → List Happening → Day
