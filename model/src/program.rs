@@ -3,12 +3,22 @@
 
 use crate::dayfile::{self, Record};
 use std::error::Error;
-use std::fs::{self, File};
+use std::fs::{self, File, OpenOptions};
 use std::io::{self, Read, Write};
+use std::os::unix::fs::OpenOptionsExt;
 use std::path::PathBuf;
 use std::process::{Child, Command, Output, Stdio};
 use std::thread::{self, JoinHandle};
 use std::time::Duration;
+
+/// Linux's O_NONBLOCK.
+const NO_WAIT: i32 = 0o4000;
+
+/// What a run printed, and its message.
+pub struct Ended {
+    pub printed: Vec<u8>,
+    pub message: String,
+}
 
 pub struct Program {
     path: PathBuf,
@@ -42,26 +52,92 @@ impl Program {
     pub fn printed_slowly(&self, file: &[u8], count: usize) -> Result<Vec<u8>, Box<dyn Error>> {
         let mut child = self.command().spawn()?;
         let mut pipe = child.stdin.take().ok_or("no pipe")?;
-        for bytes in file.chunks(count) {
-            // The program may have ended at a refusal.
-            let _ = pipe.write_all(bytes);
-            thread::sleep(Duration::from_micros(100));
+        thread::scope(|scope| {
+            scope.spawn(move || {
+                for bytes in file.chunks(count) {
+                    // The program may have ended at a refusal.
+                    let _ = pipe.write_all(bytes);
+                    thread::sleep(Duration::from_micros(100));
+                }
+            });
+            printout(child.wait_with_output()?)
+        })
+    }
+
+    /// What it prints when it is stopped in the middle of a write and goes on: Linux then ends the
+    /// write with what it has taken. The printout is longer than a pipe holds.
+    pub fn printed_stopped(&self, file: &[u8]) -> Result<Vec<u8>, Box<dyn Error>> {
+        let child = self.command().stdin(self.lay(file)?).spawn()?;
+        // By now it waits for the pipe to be emptied.
+        thread::sleep(Duration::from_millis(200));
+        for signal in ["STOP", "CONT"] {
+            let script = format!("kill -{signal} {}", child.id());
+            Command::new("sh").args(["-c", &script]).status()?;
+            thread::sleep(Duration::from_millis(20));
         }
-        drop(pipe);
         printout(child.wait_with_output()?)
     }
 
-    /// What it prints when the first read fails.
-    pub fn printed_unread(&self) -> Result<Vec<u8>, Box<dyn Error>> {
-        printout(self.command().stdin(File::open("/")?).output()?)
+    /// How it ends when the first read fails: on a directory, and on a descriptor that is closed.
+    pub fn unread(&self) -> Result<[Ended; 2], Box<dyn Error>> {
+        let directory = self.command().stdin(File::open("/")?).stderr(Stdio::piped()).output()?;
+        let closed = self.shell("exec \"$0\" <&-").output()?;
+        Ok([ended(directory)?, ended(closed)?])
     }
 
-    /// True if it ends without a word on a failing write, or if no write can be made to fail here.
-    pub fn ends_quietly(&self, file: &[u8]) -> Result<bool, Box<dyn Error>> {
-        let Ok(full) = File::create("/dev/full") else { return Ok(true) };
+    /// How it ends when a read fails once the file has come: that of a pipe that must not wait for
+    /// more, and has more to wait for. The file fits into a pipe.
+    pub fn read_until(&self, file: &[u8]) -> Result<Ended, Box<dyn Error>> {
+        let (mut give, take) = self.pipe()?;
+        give.write_all(file)?;
+        let stopped = self.command().stdin(take).stderr(Stdio::piped()).output()?;
+        drop(give);
+        ended(stopped)
+    }
+
+    /// How it ends when no write can be made: on a full device, if there is one, and on a descriptor
+    /// that is closed.
+    pub fn unwritten(&self, file: &[u8]) -> Result<Vec<Ended>, Box<dyn Error>> {
+        let mut ways = vec![self.shell("exec \"$0\" >&-").stdin(self.lay(file)?).output()?];
+        if let Ok(full) = File::create("/dev/full") {
+            let mut command = self.command();
+            ways.push(command.stdin(self.lay(file)?).stdout(full).stderr(Stdio::piped()).output()?);
+        }
+        ways.into_iter().map(ended).collect()
+    }
+
+    /// How it ends when its output goes into a pipe that must not wait until it is emptied, and what
+    /// the pipe took.
+    pub fn written_until(&self, file: &[u8]) -> Result<Ended, Box<dyn Error>> {
+        let (give, mut take) = self.pipe()?;
         let mut command = self.command();
-        let ended = command.stdin(self.lay(file)?).stdout(full).stderr(Stdio::piped()).output()?;
-        Ok(ended.status.code().is_some() && ended.stderr.is_empty())
+        let stopped =
+            command.stdin(self.lay(file)?).stdout(give).stderr(Stdio::piped()).output()?;
+        drop(command);
+        let mut stopped = ended(stopped)?;
+        take.read_to_end(&mut stopped.printed)?;
+        Ok(stopped)
+    }
+
+    /// A shell that starts it in its own way.
+    fn shell(&self, script: &str) -> Command {
+        let mut command = Command::new("sh");
+        command.args(["-c", script]).arg(&self.path);
+        command.stdin(Stdio::null()).stdout(Stdio::piped()).stderr(Stdio::piped());
+        command
+    }
+
+    /// A pipe neither end of which waits for the other.
+    fn pipe(&self) -> io::Result<(File, File)> {
+        let path = self.input.with_extension("pipe");
+        let _ = fs::remove_file(&path);
+        if !Command::new("mkfifo").arg(&path).status()?.success() {
+            return Err(io::Error::other("mkfifo failed"));
+        }
+        let take = OpenOptions::new().read(true).custom_flags(NO_WAIT).open(&path)?;
+        let give = OpenOptions::new().write(true).custom_flags(NO_WAIT).open(&path)?;
+        fs::remove_file(&path)?;
+        Ok((give, take))
     }
 
     /// By how many KiB its memory grows from the first MiB of a file to the last of `size`, and
@@ -105,10 +181,15 @@ impl Drop for Program {
     }
 }
 
-fn printout(ended: Output) -> Result<Vec<u8>, Box<dyn Error>> {
-    match ended.status.code() {
-        Some(_) => Ok(ended.stdout),
-        None => Err(format!("the runner was ended by {}", ended.status).into()),
+fn printout(output: Output) -> Result<Vec<u8>, Box<dyn Error>> {
+    Ok(ended(output)?.printed)
+}
+
+fn ended(output: Output) -> Result<Ended, Box<dyn Error>> {
+    let message = String::from_utf8_lossy(&output.stderr).into_owned();
+    match output.status.code() {
+        Some(_) => Ok(Ended { printed: output.stdout, message }),
+        None => Err(format!("the runner was ended by {}", output.status).into()),
     }
 }
 

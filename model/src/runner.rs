@@ -2,6 +2,8 @@
 
 use crate::dayfile::{self, Record, LONGEST};
 use crate::register::{Day, Desk, Refusal, Turn, View, PLACES};
+use std::error::Error;
+use std::fmt;
 use std::io::{self, ErrorKind, Read, Write};
 
 const INPUT: usize = 1 << 16;
@@ -119,6 +121,31 @@ fn number(out: &mut Vec<u8>, mut value: u32) {
     out.extend_from_slice(&digits[start..]);
 }
 
+/// Why a run ended before its day was printed whole.
+#[derive(Debug)]
+pub enum Broken {
+    Read(io::Error),
+    Write(io::Error),
+}
+
+impl From<io::Error> for Broken {
+    /// The `?` here stand at writes: a read that fails is kept until the lines before it are out.
+    fn from(error: io::Error) -> Self {
+        Broken::Write(error)
+    }
+}
+
+impl fmt::Display for Broken {
+    fn fmt(&self, f: &mut fmt::Formatter<'_>) -> fmt::Result {
+        match self {
+            Broken::Read(error) => write!(f, "cannot read standard input: {error}"),
+            Broken::Write(error) => write!(f, "cannot write standard output: {error}"),
+        }
+    }
+}
+
+impl Error for Broken {}
+
 /// The part of the input not yet taken, in a buffer of fixed size.
 struct Source<R> {
     input: R,
@@ -126,12 +153,13 @@ struct Source<R> {
     start: usize,
     end: usize,
     ended: bool,
+    fault: Option<io::Error>,
 }
 
 impl<R: Read> Source<R> {
     fn new(input: R) -> Self {
         let buffer = vec![0; INPUT].into_boxed_slice();
-        Source { input, buffer, start: 0, end: 0, ended: false }
+        Source { input, buffer, start: 0, end: 0, ended: false, fault: None }
     }
 
     /// What is left, with a whole record in it unless the input ends sooner.
@@ -151,15 +179,18 @@ impl<R: Read> Source<R> {
                 Ok(0) => self.ended = true,
                 Ok(count) => self.end += count,
                 Err(error) if error.kind() == ErrorKind::Interrupted => {}
-                // A failing read ends the file there.
-                Err(_) => self.ended = true,
+                Err(error) => {
+                    self.ended = true;
+                    self.fault = Some(error);
+                }
             }
         }
     }
 }
 
-/// Runs a day file. An error is that of a failing write.
-pub fn run(input: impl Read, output: impl Write) -> io::Result<()> {
+/// Runs a day file. After a failing read the lines of the records that came whole are printed, and
+/// no more.
+pub fn run(input: impl Read, output: impl Write) -> Result<(), Broken> {
     run_watched(input, output, |_, _, _| {})
 }
 
@@ -169,7 +200,7 @@ pub fn run_watched(
     input: impl Read,
     mut output: impl Write,
     mut watch: impl FnMut(Option<Record>, Result<Done, Refusal>, &Register),
-) -> io::Result<()> {
+) -> Result<(), Broken> {
     let mut source = Source::new(input);
     let mut register = Register::default();
     let mut out = Vec::with_capacity(OUTPUT + LINE);
@@ -185,6 +216,8 @@ pub fn run_watched(
                 }
                 watch(Some(record), outcome, &register);
             }
+            // The read that failed may have held the rest of it.
+            Err(_) if source.fault.is_some() => break,
             Err(refusal) => {
                 line(&mut out, b"refused ", refusal as u32);
                 watch(None, Err(refusal), &register);
@@ -196,7 +229,13 @@ pub fn run_watched(
             out.clear();
         }
     }
-    line(&mut out, b"end ", register.day.event);
+    if source.fault.is_none() {
+        line(&mut out, b"end ", register.day.event);
+    }
     output.write_all(&out)?;
-    output.flush()
+    output.flush()?;
+    match source.fault {
+        None => Ok(()),
+        Some(fault) => Err(Broken::Read(fault)),
+    }
 }

@@ -3,6 +3,7 @@
 use model::dayfile::{read, write, Record};
 use model::days::{long_file, random_day};
 use model::register::Refusal;
+use model::runner::Broken;
 use model::{runner, text};
 use std::io::{self, Read, Write};
 
@@ -65,30 +66,62 @@ fn bad_lines_are_named() {
     }
 }
 
-/// Gives a few bytes at a time and fails when there are none left.
-struct Failing<'a>(&'a [u8], usize);
+/// Gives a few bytes at a time, is interrupted in between, and fails, if it is to, when there are
+/// none left.
+struct Input<'a> {
+    left: &'a [u8],
+    count: usize,
+    fails: bool,
+    interrupted: bool,
+}
 
-impl Read for Failing<'_> {
+fn input(left: &[u8], count: usize, fails: bool) -> Input<'_> {
+    Input { left, count, fails, interrupted: false }
+}
+
+impl Read for Input<'_> {
     fn read(&mut self, buffer: &mut [u8]) -> io::Result<usize> {
-        if self.0.is_empty() {
+        self.interrupted = !self.interrupted;
+        if self.interrupted {
+            return Err(io::ErrorKind::Interrupted.into());
+        }
+        if self.left.is_empty() && self.fails {
             return Err(io::Error::other("no more"));
         }
-        let count = self.1.min(self.0.len());
-        buffer[..count].copy_from_slice(&self.0[..count]);
-        self.0 = &self.0[count..];
+        let count = self.count.min(self.left.len()).min(buffer.len());
+        buffer[..count].copy_from_slice(&self.left[..count]);
+        self.left = &self.left[count..];
         Ok(count)
     }
 }
 
 #[test]
 fn how_the_bytes_arrive_does_not_matter() {
-    let file = long_file(70_000, 1);
+    let file = long_file(200_000, 1);
     let mut wanted = Vec::new();
     runner::run(file.as_slice(), &mut wanted).unwrap();
-    for count in 1..=12 {
+    for count in (1..=12).chain([65_535, 65_536, 65_537]) {
         let mut printed = Vec::new();
-        runner::run(Failing(&file, count), &mut printed).unwrap();
+        runner::run(input(&file, count, false), &mut printed).unwrap();
         assert!(printed == wanted);
+    }
+}
+
+#[test]
+fn a_failing_read_leaves_the_lines_of_the_whole_records() {
+    let file = text::to_bytes("open 1\nentry 1 7\nturn 1 x3\npage 1\nturn 1").unwrap();
+    let ends = [0, 6, 16, 22, 28, 34, 40, 46];
+    for cut in 0..=file.len() {
+        let whole = ends.iter().filter(|&&end| end <= cut).count() - 1;
+        let mut wanted = Vec::new();
+        runner::run(&file[..ends[whole]], &mut wanted).unwrap();
+        let lines: Vec<&[u8]> = wanted.split_inclusive(|&byte| byte == b'\n').collect();
+        for count in [1, 7, 100] {
+            let mut printed = Vec::new();
+            let broken = runner::run(input(&file[..cut], count, true), &mut printed);
+            assert!(matches!(broken, Err(Broken::Read(_))));
+            assert_eq!(printed, lines[..whole].concat(), "cut after {cut}");
+        }
     }
 }
 
@@ -109,5 +142,6 @@ impl Write for Full {
 
 #[test]
 fn a_failing_write_ends_the_run() {
-    assert!(runner::run(long_file(200_000, 1).as_slice(), Full(100_000)).is_err());
+    let broken = runner::run(long_file(200_000, 1).as_slice(), Full(100_000));
+    assert!(matches!(broken, Err(Broken::Write(_))));
 }

@@ -1,4 +1,8 @@
--- What the day runner keeps true of its input buffer, what it prints, and its laps.
-pub mod Input
+-- What the day runner prints of a file, and the run that prints it: laps on the bytes that came, and passes, each with a read and a
+-- write. Read in this order; Progress has what the code holds of a run.
 pub mod Printed
+pub mod System
+pub mod Input
 pub mod Laps
+pub mod Progress
+pub mod Passes

@@ -11,7 +11,7 @@ use Rattle.snapshot.specs.declared.Answer.{Answer}
 use Rattle.snapshot.specs.declared.Answer.the-variants as Told
 use Rattle.dayfile.specs.declared.Reading.{Reading}
 use Rattle.dayfile.specs.declared.Reading.the-variants.{Found, End, Refused}
-use Rattle.days.specs.Happenings.{Happening, dayOf, dayAfter}
+use Rattle.days.specs.Happenings.{Happening, dayOf, dayAfter, recordsIn}
 use Rattle.daytext.specs.Lines.{textOf}
 use Rattle.daytext.specs.declared.Line.{Line}
 use Rattle.daytext.specs.declared.Line.the-variants as Printed
@@ -59,3 +59,7 @@ printout d hs = linesOf hs ++ textOf (Printed.End (dayAfter d hs .event)) []
 -- what a day file prints
 abbrev pub printed : List ℕ → List ℕ
 printed bs = printout blankDay (dayOf bs)
+
+-- what is printed of bytes after which a read failed: the lines of the records that came whole, and no end
+abbrev pub printedUntil : List ℕ → List ℕ
+printedUntil bs = linesOf (recordsIn (dayOf bs))

@@ -1,49 +1,60 @@
 // The day runner: it reads a day file of any length from standard input, in constant memory, and prints one line a record, then
-// `end` and the event number. A read that fails counts as the end of the input; a write that fails ends the run.
-use libc::STDIN_FILENO;
-use libc::STDOUT_FILENO;
+// `end` and the event number. A read or a write that fails ends the run with a message on standard error.
 use records::Running;
+ghost use mathlib.Core.Path.{_≡_};
+ghost use mathlib.Core.Bool.{false};
 ghost use lib.ListN.{length};
-ghost use Rattle.day_runner.specs.Input.{Within};
+ghost use Rattle.day_runner.specs.Laps.{blankStand};
+ghost use Rattle.day_runner.specs.Progress.{Rests, standOf};
+ghost use Rattle.day_runner.specs.Passes.{IsPass, IsRun};
 
 mod input;
+mod output;
 mod printed;
 mod records;
+mod system;
 
-// Writes the first n bytes of a buffer, and answers whether that went well.
-fn write_out(buf: &[u8], n: usize) -> bool {
-    if buf.len() < n {
-        return false;
-    }
-    io::write_all(STDOUT_FILENO, &buf[..n])
-}
+// As many bytes as 1,023 of the shortest records: a pass lays a line for each and one for the end, 1,024 in all, and the output has
+// room for as many of the longest.
+const INPUT: usize = 6138;
 
-// Fills up the input, runs the records that lie whole in it, and writes the output where it is nearly full or all is done.
-fn pass(r: Running, bytes: &mut [u8], out: &mut [u8]) -> Running
-    requires { ⌜ Within (r .progress .input) (length (now bytes)) ⌝ }
-    ensures { λ x. ⌜ Within (x .progress .input) (length (now (bytes .exit))) ⌝ }
+const OUTPUT: usize = 262144;
+
+// A pass: one read fills up the input, the records that lie whole in it are run, and their lines are written.
+fn pass(r: Running, bytes: &mut [u8], out: &mut [u8], page: &mut [u32]) -> Running
+    requires { ⌜ Rests (r .progress) (length (now bytes)) (length (now out)) (length (now page)) × (r .progress .ended ≡ false) ⌝ }
+    ensures { λ x. ⌜ Rests (x .progress) (length (now (bytes .exit))) (length (now (out .exit))) (length (now (page .exit))) ⌝ }
+    ensures { λ x. ⌜ IsPass
+        (standOf r (now (page .entry)) (now (bytes .entry)) (now (out .entry)))
+        (standOf x (now (page .exit)) (now (bytes .exit)) (now (out .exit))) ⌝ }
 {
     let at = r.progress;
     let before = at.input;
-    let input = input::refill(STDIN_FILENO, bytes, before);
-    let size = bytes.len();
-    let mut page = [0u32; 8];
-    let ran = records::run(records::refilled(r, input, size), bytes, out, &mut page);
-    if records::is_waiting(ran.progress, out.len()) {
-        return ran;
-    }
-    let went = write_out(out, ran.progress.written);
+    let input = input::refill(bytes, before);
+    let ran = records::run(records::refilled(r, input), bytes, out, page);
+    let went = output::write_out(out, ran.progress.written);
     records::flushed(ran, went)
 }
 
-// A proved loop has to end, and nothing says that the input does: the loop counts its passes down from a number that none uses up.
-fn main() {
-    let mut bytes = io::large_buffer();
-    let mut out = io::large_buffer();
-    let mut ran = records::start();
-    let mut passes = u64::MAX;
-    while passes > 0 && !ran.progress.ended {
-        ran = pass(ran, &mut bytes, &mut out);
-        passes -= 1;
+// Passes until all is done, at most that many: a proved loop has to end, and nothing says that the input does.
+fn passes(r: Running, most: u64, bytes: &mut [u8], out: &mut [u8], page: &mut [u32]) -> Running
+    requires { ⌜ Rests (r .progress) (length (now bytes)) (length (now out)) (length (now page)) ⌝ }
+    requires { ⌜ standOf r (now page) (now bytes) (now out) ≡ blankStand ⌝ }
+    ensures { λ x. ⌜ IsRun most (standOf x (now (page .exit)) (now (bytes .exit)) (now (out .exit))) ⌝ }
+{
+    let mut ran = r;
+    let mut left = most;
+    while left > 0 && !ran.progress.ended {
+        ran = pass(ran, bytes, out, page);
+        left -= 1;
     }
+    ran
+}
+
+// The passes are counted down from a number that none uses up.
+fn main() {
+    let mut bytes = [0u8; INPUT];
+    let mut out = [0u8; OUTPUT];
+    let mut page = [0u32; 8];
+    passes(records::start(), u64::MAX, &mut bytes, &mut out, &mut page);
 }

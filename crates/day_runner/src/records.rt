@@ -8,25 +8,25 @@ use snapshot::Day;
 use snapshot::Outcome;
 use unbounded::Process;
 ghost use mathlib.Core.Path.{_≡_};
-ghost use Prim.Native.Nat.{_+_, _≤_, _<_};
+ghost use Prim.Native.Nat.{_+_, _<_};
 ghost use lib.ListN.{length, take, replicate};
 ghost use Rattle.unbounded.specs.Processes.{zeroProcess};
 ghost use Rattle.daytext.specs.Buffer.{laidPlace, laidText};
-ghost use Rattle.day_runner.specs.Input.{Within, Takes};
+ghost use Rattle.day_runner.specs.Input.{Within, Takes, nextIn};
 ghost use Rattle.day_runner.specs.Printed.{lineOf};
-ghost use Rattle.day_runner.specs.Laps.{blankProgress, refilledProgress, flushedProgress, hasRoom, isWaiting, goes, nextIn, progressPast, ran};
+ghost use Rattle.day_runner.specs.Laps.{ran};
+ghost use Rattle.day_runner.specs.Progress.{blankProgress, refilledProgress, flushedProgress, canGo, closedProgress, progressPast};
+ghost use Rattle.day_runner.specs.Progress.{CanLay, standOf};
 
 // The longest record, in bytes.
 const WHOLE: usize = 10;
 
-// How far a run has come: the day, the input, how much of the output is laid, whether all is done, and how many laps there can still
-// be on this input.
+// How far a run has come: the day, the input, how much of the output is laid, and whether all is done.
 pub struct Progress {
     pub day: Day,
     pub input: Input,
     pub written: usize,
     pub ended: bool,
-    pub left: usize,
 }
 
 // How far a run has come, and its table, of which it lends as many records as the day has processes.
@@ -49,35 +49,31 @@ pub fn start() -> Running
         at: 0,
         end: 0,
         last: false,
+        failed: false,
     };
     let progress = Progress {
         day: snapshot::blank(),
         input,
         written: 0,
         ended: false,
-        left: 0,
     };
     with_table(progress, table::blank())
 }
 
-// Whether the output has room for the line of a record and the last two.
-fn has_room(at: Progress, room: usize) -> bool
-    ensures { λ b. ⌜ b ≡ hasRoom at room ⌝ }
+// A run whose input was filled up; nothing is laid yet of what it will print.
+pub fn refilled(r: Running, input: Input) -> Running
+    ensures { λ x. ⌜ (x .progress ≡ refilledProgress (r .progress) input) × (x .table ≡ r .table) ⌝ }
 {
-    if room < at.written {
-        return false;
-    }
-    3 * LONGEST <= room - at.written
-}
-
-// Whether the output can take more before it is written.
-pub fn is_waiting(at: Progress, room: usize) -> bool
-    ensures { λ b. ⌜ b ≡ isWaiting at room ⌝ }
-{
-    if at.ended {
-        return false;
-    }
-    has_room(at, room)
+    let table = r.table;
+    let before = r.progress;
+    let day = before.day;
+    let progress = Progress {
+        day,
+        input,
+        written: 0,
+        ended: before.ended,
+    };
+    with_table(progress, table)
 }
 
 // After the output was written, or could not be.
@@ -92,42 +88,25 @@ pub fn flushed(r: Running, went: bool) -> Running
     let progress = Progress {
         day,
         input,
-        written: 0,
-        ended,
-        left: at.left,
-    };
-    with_table(progress, table)
-}
-
-// A run whose input was filled up, in a buffer of that many bytes. No record is empty, so there are at most as many as bytes.
-pub fn refilled(r: Running, input: Input, size: usize) -> Running
-    ensures { λ x. ⌜ (x .progress ≡ refilledProgress (r .progress) input size) × (x .table ≡ r .table) ⌝ }
-{
-    let table = r.table;
-    let at = r.progress;
-    let day = at.day;
-    let progress = Progress {
-        day,
-        input,
         written: at.written,
-        ended: at.ended,
-        left: size,
+        ended,
     };
     with_table(progress, table)
 }
 
-// Whether the next record can be run: it lies whole in the input, and the output has room.
+// Whether there is another lap: the next record lies whole in the input, or no more will come. That the output has room for its line
+// is known; the test here is the one that `lay` then need not make.
 fn can_go(at: Progress, room: usize) -> bool
-    ensures { λ b. ⌜ b ≡ goes at room ⌝ }
+    ensures { λ b. ⌜ b ≡ canGo at room ⌝ }
 {
     let input = at.input;
-    if at.left == 0 {
-        return false;
-    }
     if at.ended {
         return false;
     }
-    if !has_room(at, room) {
+    if room < at.written {
+        return false;
+    }
+    if room - at.written < LONGEST {
         return false;
     }
     if input.last {
@@ -150,28 +129,47 @@ fn next_of(at: Progress, bytes: &[u8]) -> Reading
     dayfile::read(&bytes[start..end])
 }
 
-// The progress once the line of what was read is laid. A refusal ends the file, and then its end is read.
+// The progress where no record was found: nothing is left, and the end is read next. After a read that failed there is no line for
+// that, and all is done.
+fn closed(at: Progress, day: Day, written: usize, end: bool) -> Progress
+    ensures { λ p. ⌜ p ≡ closedProgress at day written end ⌝ }
+{
+    let before = at.input;
+    let input = Input {
+        at: before.end,
+        end: before.end,
+        last: true,
+        failed: before.failed,
+    };
+    if before.failed {
+        return Progress {
+            day,
+            input,
+            written: at.written,
+            ended: true,
+        };
+    }
+    Progress {
+        day,
+        input,
+        written,
+        ended: end,
+    }
+}
+
+// The progress once the line of what was read is laid. A refusal ends the file.
 fn past(at: Progress, x: Reading, o: Outcome, page: &[u32], out: &mut [u8]) -> Progress
-    requires { ⌜ Takes x (at .input) × (0 < at .left) ⌝ }
-    ensures { λ p. ⌜ p ≡ progressPast at o (laidPlace (lineOf o x) (take (o .day .count) (now (page .entry))) (now (out .entry)) (at .written)) x ⌝ }
-    ensures { λ p. ⌜ now (out .exit) ≡ laidText (lineOf o x) (take (o .day .count) (now (page .entry))) (now (out .entry)) (at .written) ⌝ }
+    requires { ⌜ Takes x (at .input) ⌝ }
+    ensures { λ p. ⌜ p ≡ progressPast at (o .day)
+        (laidPlace (lineOf o x) (take (o .day .count) (now (page .entry))) (now (out .entry)) (at .written)) x ⌝ }
+    ensures { λ p. ⌜ now (out .exit) ≡
+        laidText (lineOf o x) (take (o .day .count) (now (page .entry))) (now (out .entry)) (at .written) ⌝ }
 {
     let input = at.input;
     let day = o.day;
     let written = printed::lay(x, o, page, out, at.written);
-    let left = at.left - 1;
     let Reading::Found { record: _, next } = x else {
-        return Progress {
-            day,
-            input: Input {
-                at: input.end,
-                end: input.end,
-                last: true,
-            },
-            written,
-            ended: printed::is_end(x),
-            left,
-        };
+        return closed(at, day, written, printed::is_end(x));
     };
     Progress {
         day,
@@ -179,21 +177,19 @@ fn past(at: Progress, x: Reading, o: Outcome, page: &[u32], out: &mut [u8]) -> P
             at: input.at + next,
             end: input.end,
             last: input.last,
+            failed: input.failed,
         },
         written,
         ended: false,
-        left,
     }
 }
 
-// Runs the records that lie whole in the input, as long as the output has room.
+// Runs the records that lie whole in the input. The output has room for all their lines.
 pub fn run(r: Running, bytes: &[u8], out: &mut [u8], page: &mut [u32]) -> Running
-    requires { ⌜ Within (r .progress .input) (length (now bytes)) ⌝ }
-    ensures { λ x. ⌜ Within (x .progress .input) (length (now (bytes .entry))) ⌝ }
-    ensures { λ x. ⌜ x .progress ≡ ran r (now (bytes .entry)) (now (page .entry)) (now (out .entry)) .progress ⌝ }
-    ensures { λ x. ⌜ x .table ≡ ran r (now (bytes .entry)) (now (page .entry)) (now (out .entry)) .table ⌝ }
-    ensures { λ x. ⌜ now (out .exit) ≡ ran r (now (bytes .entry)) (now (page .entry)) (now (out .entry)) .out ⌝ }
-    ensures { λ x. ⌜ now (page .exit) ≡ ran r (now (bytes .entry)) (now (page .entry)) (now (out .entry)) .page ⌝ }
+    requires { ⌜ CanLay (r .progress) (length (now bytes)) (length (now out)) (length (now page)) ⌝ }
+    ensures { λ x. ⌜ CanLay (x .progress) (length (now (bytes .entry))) (length (now (out .exit))) (length (now (page .exit))) ⌝ }
+    ensures { λ x. ⌜ standOf x (now (page .exit)) (now (bytes .entry)) (now (out .exit))
+        ≡ ran (standOf r (now (page .entry)) (now (bytes .entry)) (now (out .entry))) ⌝ }
 {
     let mut table = r.table;
     let mut progress = r.progress;

@@ -50,7 +50,8 @@ readings-unfold (b ∷ bs) =
     (λ after s. enough-same (length bs) (length after) after (omega arith) (omega arith))
 
 -- `readings` alone reads a file so
-pub readings-only : (f : List ℕ → List Reading) → ((bs : List ℕ) → f bs ≡ readOn f bs (reading bs)) → (bs : List ℕ) → f bs ≡ readings bs
+pub readings-only : (f : List ℕ → List Reading) → ((bs : List ℕ) → f bs ≡ readOn f bs (reading bs)) →
+    (bs : List ℕ) → f bs ≡ readings bs
 readings-only f h bs = go (suc (length bs)) bs (le-refl (suc (length bs)))
   where
     go : (most : ℕ) (bs : List ℕ) → length bs < most → f bs ≡ readings bs

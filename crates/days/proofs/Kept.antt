@@ -42,7 +42,7 @@ lentTo-le d x = at-most-eight (wanted d x) (ltb (wanted d x) 8) refl
 
 -- ---- the page list does not grow
 
-pub take-short : (n : ℕ) (ws : List ℕ) → length (take n ws) ≤ n
+take-short : (n : ℕ) (ws : List ℕ) → length (take n ws) ≤ n
 take-short zero ws = omega arith
 take-short (suc n) [] = omega arith
 take-short (suc n) (w ∷ ws) = let l = take-short n ws in omega arith

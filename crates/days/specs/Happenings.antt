@@ -1,5 +1,6 @@
 -- A whole day file: what happened, in order (document 01, Day files and the day runner).
 use Prim.Native.Nat.{ℕ}
+use mathlib.Core.Bool.{cond}
 use mathlib.Core.List.{List, [], _∷_, _++_}
 use lib.ListN.{take, drop, replicate}
 use Rattle.snapshot.specs.Requests.{blankDay}
@@ -9,7 +10,7 @@ use Rattle.dayfile.specs.declared.Reading.{Reading}
 use Rattle.dayfile.specs.Files.{readings}
 use Rattle.unbounded.specs.declared.Process.{Process}
 use Rattle.unbounded.specs.Processes.{zeroProcess}
-use Rattle.days.specs.Asking.{requestOf, lentTo, askedOutcome, askedTable, askedPage}
+use Rattle.days.specs.Asking.{isNone, requestOf, lentTo, askedOutcome, askedTable, askedPage}
 
 -- what is held between two records: the day, its table of eight process records and the page list
 pub record Box : Type 0 where
@@ -55,11 +56,19 @@ abbrev pub happenings : Box → List Reading → List Happening
 happenings b [] = []
 happenings b (x ∷ xs) = happeningIn b x ∷ happenings (boxAfter b x) xs
 
--- a whole day file
+-- what happens in a file on a box, and in a whole day file (proofs/Files: it is what happens first, and then what happens in the rest)
+abbrev pub fileOn : Box → List ℕ → List Happening
+fileOn b bs = happenings b (readings bs)
+
 unfoldable pub dayOf : List ℕ → List Happening
-dayOf bs = happenings blankBox (readings bs)
+dayOf bs = fileOn blankBox bs
 
 -- the day once all of it happened, which was d before
 abbrev pub dayAfter : Day → List Happening → Day
 dayAfter d [] = d
 dayAfter d (h ∷ hs) = dayAfter (h .outcome .day) hs
+
+-- those of them that were records: all but a refusal that ended the file
+abbrev pub recordsIn : List Happening → List Happening
+recordsIn [] = []
+recordsIn (h ∷ hs) = cond (isNone (h .reading)) (recordsIn hs) (h ∷ recordsIn hs)

@@ -1,5 +1,4 @@
--- Laws of numerals, of laying text and of the lines' lengths, and case A as it is printed.
+-- Laws of numerals, of laying text and of the lines' lengths.
 pub mod Numerals
 pub mod Laying
 pub mod Lengths
-pub mod CaseA

@@ -2,11 +2,14 @@
 //! by line: the papers' days, damaged and long files, full days and random days.
 
 use model::counts::{Counts, Reached};
+use model::dayfile::Record;
 use model::days::{full_day, long_file, random_day};
 use model::papers::{self, CASES, ENDINGS};
-use model::program::Program;
+use model::program::{Ended, Program};
+use model::runner::Broken;
 use model::{dayfile, runner, text};
 use std::error::Error;
+use std::io::{self, Read};
 use std::mem;
 use std::path::PathBuf;
 use std::process::ExitCode;
@@ -64,6 +67,8 @@ struct Comparison {
     counts: Counts,
     cut: Places,
     damaged: Places,
+    /// Runs that a failing read or write ended.
+    failures: u64,
     /// Records across an edge of 64 KiB, by length and by the bytes before the edge.
     across: [[u64; 11]; 11],
 }
@@ -76,6 +81,7 @@ impl Comparison {
             counts: Counts::default(),
             cut: Places::default(),
             damaged: Places::default(),
+            failures: 0,
             across: Default::default(),
         }
     }
@@ -83,12 +89,15 @@ impl Comparison {
     fn run(&mut self, seed: u64) -> Checked {
         self.papers()?;
         self.input_and_output()?;
+        self.failures()?;
+        self.refused_before_the_end()?;
         self.cut()?;
         self.damaged()?;
         self.tails()?;
         self.long_files()?;
         self.full_days()?;
         println!("the papers' days, cut, damaged, long and full ones: {} alike", self.days);
+        println!("failing reads and writes: {} ended with a message", self.failures);
         let special = mem::take(&mut self.counts);
 
         for day in 1..=FIXED_DAYS {
@@ -157,24 +166,103 @@ impl Comparison {
         Ok(())
     }
 
-    /// Input that fails, arrives a few bytes at a time or is long; output that fails.
+    /// Input that arrives a few bytes at a time, in large lumps, or is long; output that is taken
+    /// in parts.
     fn input_and_output(&mut self) -> Checked {
-        self.alike("a failing read", &[], b"end 0\n", &self.runner.printed_unread()?)?;
-        if !self.runner.ends_quietly(&long_file(1 << 20, 1))? {
-            return Err("a failing write does not end the run quietly".into());
-        }
         for count in 1..=11 {
             let mut file = random_day(count as u64);
             file.truncate(150 * count);
-            let mut wanted = Vec::new();
-            runner::run(file.as_slice(), &mut wanted)?;
-            let printed = self.runner.printed_slowly(&file, count)?;
-            self.alike(&format!("{count} bytes at a time"), &file, &wanted, &printed)?;
+            self.check_slowly(&file, count)?;
+        }
+        for count in [6_137, 6_138, 65_535] {
+            self.check_slowly(&long_file(300_000, count as u64), count)?;
+        }
+        let file = long_file(300_000, 7);
+        let mut wanted = Vec::new();
+        runner::run(file.as_slice(), &mut wanted)?;
+        for _ in 0..3 {
+            let printed = self.runner.printed_stopped(&file)?;
+            self.alike("a run that is stopped while it writes", &file, &wanted, &printed)?;
         }
         let size = 24 << 20;
         let (grown, printed) = self.runner.growth(size)?;
         if grown > 4 << 10 || printed != size / 6 * "refused 10\n".len() + "end 0\n".len() {
             return Err(format!("{size} bytes: {grown} KiB more, {printed} bytes printed").into());
+        }
+        Ok(())
+    }
+
+    fn check_slowly(&mut self, file: &[u8], count: usize) -> Checked {
+        let mut wanted = Vec::new();
+        runner::run(file, &mut wanted)?;
+        let printed = self.runner.printed_slowly(file, count)?;
+        self.alike(&format!("{count} bytes at a time"), file, &wanted, &printed)
+    }
+
+    /// Reads and writes that fail, at once or after a while: the message says which, and after a
+    /// read that failed there is no end.
+    fn failures(&mut self) -> Checked {
+        for stopped in self.runner.unread()? {
+            self.failed("a failing first read", &[], b"", &stopped, "read")?;
+        }
+        let small = bytes(SMALL);
+        let long = long_file(60_000, 3);
+        let cuts = (0..=small.len()).map(|at| &small[..at]);
+        for file in cuts.chain((59_980..=60_000).map(|at| &long[..at])) {
+            let mut wanted = Vec::new();
+            match runner::run(Breaking(file), &mut wanted) {
+                Err(Broken::Read(_)) => {}
+                other => return Err(format!("the model's run ends with {other:?}").into()),
+            }
+            let stopped = self.runner.read_until(file)?;
+            let name = format!("a read that fails after {} bytes", file.len());
+            self.failed(&name, file, &wanted, &stopped, "read")?;
+        }
+        let long = long_file(1 << 20, 1);
+        for file in [small.as_slice(), &long] {
+            for stopped in self.runner.unwritten(file)? {
+                self.failed("a failing write", file, b"", &stopped, "write")?;
+            }
+        }
+        let mut wanted = Vec::new();
+        runner::run(long.as_slice(), &mut wanted)?;
+        let stopped = self.runner.written_until(&long)?;
+        let begun = wanted.get(..stopped.printed.len()).unwrap_or_default().to_vec();
+        if begun.is_empty() || begun.len() == wanted.len() {
+            return Err("no write failed after another".into());
+        }
+        self.failed("a write that fails after another", &long, &begun, &stopped, "write")
+    }
+
+    fn failed(
+        &mut self,
+        name: &str,
+        file: &[u8],
+        wanted: &[u8],
+        stopped: &Ended,
+        which: &str,
+    ) -> Checked {
+        if stopped.message.lines().count() != 1 || !stopped.message.contains(which) {
+            return Err(format!("{name}: the message is {:?}", stopped.message).into());
+        }
+        self.failures += 1;
+        self.alike(name, file, wanted, &stopped.printed)
+    }
+
+    /// Turns before any opening, then a record of an unknown kind or length, then more than a buffer
+    /// is likely to hold, none of which is read. The lines of 5,888 turns leave 768 bytes of 64 KiB;
+    /// 1,023 turns are 6,138 bytes, and 10,922 are nearly 64 KiB.
+    fn refused_before_the_end(&mut self) -> Checked {
+        for turns in [0, 1, 1_021, 1_022, 1_023, 5_887, 5_888, 5_889, 10_921, 10_922] {
+            for bad in [[4, 0, 9, 0, 1, 0], [9, 0, 4, 0, 1, 0]] {
+                let mut file = Vec::new();
+                for _ in 1..=turns {
+                    dayfile::write(Record::Turn { desk: 1 }, &mut file);
+                }
+                file.extend(bad);
+                file.extend(long_file(70_000, 5));
+                self.check(&format!("a refusal after {turns} turns, and more"), &file)?;
+            }
         }
         Ok(())
     }
@@ -274,6 +362,18 @@ impl Comparison {
         let lines = text::to_text(file);
         let lines = if lines.len() < 4_000 { lines } else { String::new() };
         Err(format!("{name}: {}\nday file: {kept}\n{lines}", difference(wanted, printed)).into())
+    }
+}
+
+/// Gives its bytes and then fails.
+struct Breaking<'a>(&'a [u8]);
+
+impl Read for Breaking<'_> {
+    fn read(&mut self, buffer: &mut [u8]) -> io::Result<usize> {
+        match self.0.read(buffer)? {
+            0 => Err(io::Error::other("no more")),
+            count => Ok(count),
+        }
     }
 }
 

@@ -3,6 +3,7 @@
 use std::io;
 
 fn main() {
-    // A failing write ends the run quietly.
-    let _ = model::runner::run(io::stdin().lock(), io::stdout().lock());
+    if let Err(broken) = model::runner::run(io::stdin().lock(), io::stdout().lock()) {
+        eprintln!("model: {broken}");
+    }
 }

@@ -18,7 +18,7 @@ with-table-requires c κs = search needs
 returns : tie.Need-returns
 returns c =
     let p = c .before .before .before .before .before .before .args .r .progress in
-    (c .with-table .ensures .0 ∙ ap (λ e. record { day = p .day; input = p .input; written = 0; ended = e; left = p .left }) (at-ended (c .before)), c .with-table .ensures .1)
+    (c .with-table .ensures .0 ∙ ap (λ e. record { day = p .day; input = p .input; written = p .written; ended = e }) (at-ended (c .before)), c .with-table .ensures .1)
 
 pub flushed-spec : {M : Type 1} → statement M
 flushed-spec = tie.close (tie.spec with-table-requires returns)

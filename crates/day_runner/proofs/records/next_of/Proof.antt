@@ -1,10 +1,10 @@
--- `day_runner::records::next_of` is safe, and a record takes no more bytes than were lent.
+-- `day_runner::records::next_of` meets its contract: what is read takes no more bytes than were lent.
 use Prim.Native.Nat.{_-_}
 use mathlib.Core.Path.{sym, _∙_}
 use native.Mathlib.Omega.{arith}
-use lib.ListN.{take, drop, length-take}
-use Rattle.dayfile.proofs.Reader.{found-consumes}
-use Rattle.day_runner.specs.Laps.{nextIn}
+use lib.ListN.{drop, length-take}
+use Rattle.dayfile.proofs.Reader.{found-consumes, refused-some}
+use Rattle.day_runner.specs.Input.{inputLeft, nextIn}
 use borrow.Author.Needs.{needs}
 use Rattle.day_runner.proofs.records.next_of.Statement.{statement}
 use Rattle.day_runner.proofs.records.next_of.Tie as tie
@@ -23,17 +23,19 @@ read-requires c κs = search needs
 
 returns : tie.Need-returns
 unfolding nextIn
-returns c = (
-  c .read .ensures,
-  λ r k q.
-      let a = c .before .before .before .before .args in
-      let i = a .at .input in
-      let part = take (i .end - i .at) (drop (i .at) (a .bytes .now)) in
-      let w = found-consumes part r k (sym (c .read .ensures) ∙ q) in
-      let l = length-take (i .end - i .at) (drop (i .at) (a .bytes .now)) in
-      let p = c .before .before .before .before .pre .start in
-      omega arith,
-)
+returns c =
+    let a = c .before .before .before .before .args in
+    let i = a .at .input in
+    let part = inputLeft i (a .bytes .now) in
+    let is = sym (c .read .ensures) in
+    let long = length-take (i .end - i .at) (drop (i .at) (a .bytes .now)) in
+    let low = c .before .before .before .before .pre .start in (
+      c .read .ensures,
+      record {
+        found = λ r k q. let w = found-consumes part r k (is ∙ q) in (omega arith, omega arith);
+        refused = λ k q. let w = refused-some part k (is ∙ q) in omega arith;
+      },
+    )
 
 pub next-of-spec : {M : Type 1} → statement M
 next-of-spec = tie.close (tie.spec sub-read part-read-start part-read-end read-requires returns)

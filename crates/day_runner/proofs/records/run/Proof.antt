@@ -1,8 +1,8 @@
 -- A walk: a loop that runs one record a turn. The token and the input are handed on to `next_of`; the first records of the local table and the page
 -- list are lent as `&mut` to `asked`, and then the page list as `&` and the output as `&mut` to `past`, each for a lifetime that is made for
 -- the call. The page list and the output are open throughout. Where a turn stands is a `State`, which says that the laps from there on come
--- to what the run comes to, and each turn leaves fewer records (`Fewer`).
-use mathlib.Core.Path.{_≡_, refl, sym, ap, subst, _∙_}
+-- to what the run comes to, and each turn leaves fewer lines to lay (`Fewer`).
+use mathlib.Core.Path.{_≡_, refl, sym, ap, ap₂, subst, _∙_}
 use Prim.Native.Nat.{ℕ, _≤_, _<_}
 use mathlib.Core.WellFounded.{WellFounded, InvImage·wf}
 use lib.WfN.{Nat·lt-wfRel}
@@ -50,9 +50,10 @@ use Rattle.unbounded.specs.declared.Process.{Process}
 use Rattle.snapshot.specs.declared.Outcome.{Outcome}
 use Rattle.day_runner.specs.declared.records.Progress.{Progress}
 use Rattle.day_runner.specs.declared.records.Running.{Running}
-use Rattle.day_runner.specs.Input.{Within, Takes}
+use Rattle.day_runner.specs.Input.{Takes, nextIn}
 use Rattle.days.specs.Asking.{requestOf, lentTo, askedOutcome, askedTable, askedPage}
-use Rattle.day_runner.specs.Laps.{Stand, goes, nextIn, laps, ran}
+use Rattle.day_runner.specs.Laps.{ran}
+use Rattle.day_runner.specs.Progress.{canGo, linesLeft, CanLay, standAt, standOf}
 use Rattle.unbounded.proofs.Process.Laws as Pr′
 use Rattle.snapshot.proofs.Outcome.Laws as O′
 use Rattle.snapshot.proofs.Request.Laws as Q′
@@ -60,13 +61,14 @@ use Rattle.dayfile.proofs.Reading.Laws as X′
 use Rattle.day_runner.proofs.records.Progress.Laws as P′
 use Rattle.day_runner.proofs.records.Running.Laws as R′
 use Rattle.walks.proofs.Data.{type-of, a-bool, a-usize}
+use Rattle.walks.proofs.Contracts.{two-given}
 use Rattle.walks.proofs.ByHand.{held, also, says-all, taken, after, tests}
 use Rattle.walks.proofs.Calls.{calls-data, lent-of, shared-own, shared-of, calls-passed, calls-lent-two, calls-shared-lent}
 use Rattle.memory.proofs.Types.{a-day, a-request, an-outcome}
 use Rattle.days.proofs.Data.{a-reading}
 use Rattle.days.proofs.Kept.{lentTo-le}
-use Rattle.day_runner.proofs.Data.{a-progress, a-running, five-facts, day-of, progress-of, table-of}
-use Rattle.day_runner.proofs.Laps.{stand, Asked, progress-past, out-past, Past, past-fewer, past-within, goes-left, goes-lap, stays}
+use Rattle.day_runner.proofs.Data.{a-progress, a-running, day-of, progress-of, table-of}
+use Rattle.day_runner.proofs.Laps.{Asked, progress-past, out-past, Past, past-fewer, past-ready, lap-done, no-lap}
 use Rattle.days.proofs.LocalTable.{Row, Table, a-table, lent-long, lent-room, whole-long, table-out, table-back}
 use Rattle.day_runner.proofs.records.can_go as g₁
 use Rattle.day_runner.proofs.records.can_go.Symbol as g₁-def
@@ -112,8 +114,8 @@ record State (r : Running) (bs zs ps : List ℕ) : Type 0 where
   pub table-is : Is Table table (a-table .spell table ∷ [])
   pub page-long : length page ≡ length ps
   pub out-long : length out ≡ length zs
-  pub within : Within (progress .input) (length bs)
-  pub goes-to : ran r bs ps zs ≡ laps (progress .left) bs (stand progress table page out)
+  pub ready : CanLay progress (length bs) (length out) (length page)
+  pub goes-to : ran (standOf r ps bs zs) ≡ ran (standAt progress table page bs out)
 
 is-true : (z : Bool) → T z → z ≡ true
 is-true true h = refl
@@ -166,33 +168,30 @@ module _ {M : Type 1} (𝓤 : URA M) (H : Heap 𝓤) (A : Atoms 𝓤) (W : Given
   abbrev Post : Val → SProp 𝓤
   Post = walkOf 𝓤 H A f.ended stayed (f.clauses 𝓤 H A mem run) .post bound
 
-  -- the turns, and their order by the records that are left
+  -- the turns, and their order by the lines that are left
   abbrev States : Type 0
   States = State r bs zs ps
 
   abbrev Fewer : States → States → Type 0
-  Fewer s′ s = s′ .progress .left < s .progress .left
+  Fewer s′ s = linesLeft (s′ .progress) < linesLeft (s .progress)
 
   fewer-ends : WellFounded Fewer
-  fewer-ends = InvImage·wf (λ (s : States). s .progress .left) (Nat·lt-wfRel .wf)
+  fewer-ends = InvImage·wf (λ (s : States). linesLeft (s .progress)) (Nat·lt-wfRel .wf)
 
-  abbrev first-state : Within (r .progress .input) (length bs) → States
-  first-state h = record { progress = r .progress; table = r .table; page = ps; out = zs; progress-is = progress-of r r-is; table-is = table-of r r-is; page-long = refl; out-long = refl; within = h; goes-to = refl }
+  abbrev first-state : CanLay (r .progress) (length bs) (length zs) (length ps) → States
+  first-state h = record { progress = r .progress; table = r .table; page = ps; out = zs; progress-is = progress-of r r-is; table-is = table-of r r-is; page-long = refl; out-long = refl; ready = h; goes-to = refl }
 
-  -- where the turn stands among the laps, and whether there is another
-  abbrev here : States → Stand
-  here s = stand (s .progress) (s .table) (s .page) (s .out)
-
+  -- whether there is another lap
   abbrev Goes : States → Bool → Type 0
-  Goes s z = goes (s .progress) (length (s .out)) ≡ z
+  Goes s z = canGo (s .progress) (length (s .out)) ≡ z
 
   -- that the laps from there on come to what the run comes to, and the next turn
   abbrev Onward : Progress → List Process → List ℕ → List ℕ → Type 0
-  Onward p xs us vs = ran r bs ps zs ≡ laps (p .left) bs (stand p xs us vs)
+  Onward p xs us vs = ran (standOf r ps bs zs) ≡ ran (standAt p xs us bs vs)
 
-  abbrev next : (p : Progress) → Within (p .input) (length bs) → Is (type-of a-progress) p (a-progress .spell p ∷ []) → (xs : List Process) → Is Table xs (a-table .spell xs ∷ []) → (us : List ℕ) → length us ≡ length ps → (vs : List ℕ) → length vs ≡ length zs → Onward p xs us vs → States
-  next p h p-is xs xs-is us us-long vs vs-long on =
-      record { progress = p; table = xs; page = us; out = vs; progress-is = p-is; table-is = xs-is; page-long = us-long; out-long = vs-long; within = h; goes-to = on }
+  abbrev next : (p : Progress) → Is (type-of a-progress) p (a-progress .spell p ∷ []) → (xs : List Process) → Is Table xs (a-table .spell xs ∷ []) → (us : List ℕ) → length us ≡ length ps → (vs : List ℕ) → length vs ≡ length zs → CanLay p (length bs) (length vs) (length us) → Onward p xs us vs → States
+  next p p-is xs xs-is us us-long vs vs-long h on =
+      record { progress = p; table = xs; page = us; out = vs; progress-is = p-is; table-is = xs-is; page-long = us-long; out-long = vs-long; ready = h; goes-to = on }
 
   -- what each contract over a slice binds outside, what it asks, and what it ensures: of `next_of`
   abbrev args₂ : States → Progress × (RefT (List ℕ) × Unit {0})
@@ -203,7 +202,7 @@ module _ {M : Type 1} (𝓤 : URA M) (H : Heap 𝓤) (A : Atoms 𝓤) (W : Given
 
   asks₂ : (s : States) → ent 𝓤 (sep 𝓤 (A .lft κ q) (sem 𝓤 H A (shared-own u8 κ b o γ bs))) (G₂ 𝓤 H A mem run .pre (to₂ s))
   asks₂ s =
-      qed W (‵ (flft κ q) ∷ ‵ (shared-own u8 κ b o γ bs) ∷ []) ∵ says ! (s .within) $ nothing ! $ move ! (2 ∷ 0 ∷ []) $ fjoin ! $ also ! a-progress (s .progress) (s .progress-is) $
+      qed W (‵ (flft κ q) ∷ ‵ (shared-own u8 κ b o γ bs) ∷ []) ∵ says ! (s .ready .within) $ nothing ! $ move ! (2 ∷ 0 ∷ []) $ fjoin ! $ also ! a-progress (s .progress) (s .progress-is) $
       nothing ! $ move ! (2 ∷ 0 ∷ []) $ join ! $ done !
 
   page-room : (s : States) → Room u32 (length (s .page))
@@ -228,7 +227,7 @@ module _ {M : Type 1} (𝓤 : URA M) (H : Heap 𝓤) (A : Atoms 𝓤) (W : Given
     abbrev ens₅ : ℕ → GName → ℕ → GName → Outcome → SProp 𝓤
     ens₅ α δ β ε x′ = ensured 𝓤 H A g₅.ended (g₅.clauses 𝓤 H A mem run) (α ∷ [], (β ∷ [], tt)) (args₅ δ ε) tt x′
 
-    says₅ : (α : ℕ) (δ : GName) (β : ℕ) (ε : GName) (x′ : Outcome) → ent 𝓤 (ens₅ α δ β ε x′) (mean 𝓤 H A (some (λ (us : List Process). some (λ (us′ : List ℕ). ‵ (finally Row δ us) ⊛ (‵ (finally u32 ε us′) ⊛ raw (fact 𝓤 (Asked (here s) y n x′ us us′)))))))
+    says₅ : (α : ℕ) (δ : GName) (β : ℕ) (ε : GName) (x′ : Outcome) → ent 𝓤 (ens₅ α δ β ε x′) (mean 𝓤 H A (some (λ (us : List Process). some (λ (us′ : List ℕ). ‵ (finally Row δ us) ⊛ (‵ (finally u32 ε us′) ⊛ raw (fact 𝓤 (Asked (s .progress) (s .table) (s .page) y n x′ us us′)))))))
     says₅ α δ β ε x′ =
         let day = s .progress .day in let ys = take n (s .table) in
         qed W (some (λ (ws : Unit {0} × (List Process × (Unit {0} × (List ℕ × Unit {0})))). ‵ (lasts g₅.ended (α ∷ [], (β ∷ [], tt)) (args₅ δ ε) ws) ⊛
@@ -236,9 +235,9 @@ module _ {M : Type 1} (𝓤 : URA M) (H : Heap 𝓤) (A : Atoms 𝓤) (W : Given
         pick ! (λ ws. split ! $ fsplit ! $ drop ! $ fsplit ! $ fsplit ! $ move ! (2 ∷ []) $ fsplit ! $ drop ! $ fsplit ! $ fsplit ! $
         -- [the last page list; _; _; the last records; _; the facts]
         keep ! (5 ∷ 3 ∷ 0 ∷ []) $ split ! $ heard ! (x′ ≡ askedOutcome day ys (s .page) y) (λ e. split ! $ heard ! (ws .1 .0 ≡ askedTable day ys (s .page) y) (λ e′. heard ! (ws .1 .1 .1 .0 ≡ askedPage day ys (s .page) y) (λ e″.
-        show ! (λ (us : List Process). mean 𝓤 H A (some (λ (us′ : List ℕ). ‵ (finally Row δ us) ⊛ (‵ (finally u32 ε us′) ⊛ raw (fact 𝓤 (Asked (here s) y n x′ us us′)))))) (ws .1 .0) $
-        show ! (λ (us′ : List ℕ). mean 𝓤 H A (‵ (finally Row δ (ws .1 .0)) ⊛ (‵ (finally u32 ε us′) ⊛ raw (fact 𝓤 (Asked (here s) y n x′ (ws .1 .0) us′))))) (ws .1 .1 .1 .0) $
-        frame ! $ frame ! $ use0 W (raw (fact 𝓤 (Asked (here s) y n x′ (ws .1 .0) (ws .1 .1 .1 .0)))) (factI 𝓤 (Asked (here s) y n x′ (ws .1 .0) (ws .1 .1 .1 .0)) (emp 𝓤) (e, e′, e″)) $ done !))))
+        show ! (λ (us : List Process). mean 𝓤 H A (some (λ (us′ : List ℕ). ‵ (finally Row δ us) ⊛ (‵ (finally u32 ε us′) ⊛ raw (fact 𝓤 (Asked (s .progress) (s .table) (s .page) y n x′ us us′)))))) (ws .1 .0) $
+        show ! (λ (us′ : List ℕ). mean 𝓤 H A (‵ (finally Row δ (ws .1 .0)) ⊛ (‵ (finally u32 ε us′) ⊛ raw (fact 𝓤 (Asked (s .progress) (s .table) (s .page) y n x′ (ws .1 .0) us′))))) (ws .1 .1 .1 .0) $
+        frame ! $ frame ! $ use0 W (raw (fact 𝓤 (Asked (s .progress) (s .table) (s .page) y n x′ (ws .1 .0) (ws .1 .1 .1 .0)))) (factI 𝓤 (Asked (s .progress) (s .table) (s .page) y n x′ (ws .1 .0) (ws .1 .1 .1 .0)) (emp 𝓤) (e, e′, e″)) $ done !))))
 
   -- of `past`
   module _ (s : States) (y : Reading) (x′ : Outcome) (us : List ℕ) where
@@ -248,10 +247,10 @@ module _ {M : Type 1} (𝓤 : URA M) (H : Heap 𝓤) (A : Atoms 𝓤) (W : Given
     abbrev to₆ : ℕ → GName → ℕ → GName → G₆ 𝓤 H A mem run .Ghost
     to₆ α δ β ε = (((α ∷ [], (β ∷ [], tt)), (fullShare, (fullShare, tt)), tt, args₆ δ ε, (a-progress .spell (s .progress) ∷ [], (a-reading .spell y ∷ [], (an-outcome .spell x′ ∷ [], (sliceVal (b₂, o₂) (length us) ∷ [], (sliceVal (b₁, o₁) (length (s .out)) ∷ [], tt)))))), tt)
 
-    asks₆ : Is (type-of a-reading) y (a-reading .spell y ∷ []) → Takes y (s .progress .input) → 0 < s .progress .left → Is (type-of an-outcome) x′ (an-outcome .spell x′ ∷ []) → (α : ℕ) (δ : GName) (β : ℕ) (ε : GName)
+    asks₆ : Is (type-of a-reading) y (a-reading .spell y ∷ []) → Takes y (s .progress .input) → Is (type-of an-outcome) x′ (an-outcome .spell x′ ∷ []) → (α : ℕ) (δ : GName) (β : ℕ) (ε : GName)
         → ent 𝓤 (sep 𝓤 (sep 𝓤 (A .lft (α ∷ []) fullShare) (sem 𝓤 H A (shared-of u32 b₂ o₂ us α δ))) (sep 𝓤 (A .lft (β ∷ []) fullShare) (sem 𝓤 H A (lent-of u8 b₁ o₁ (s .out) β ε)))) (G₆ 𝓤 H A mem run .pre (to₆ α δ β ε))
-    asks₆ y-is ends positive x-is α δ β ε =
-        qed W ((‵ (flft (α ∷ []) fullShare) ⊛ ‵ (shared-of u32 b₂ o₂ us α δ)) ∷ (‵ (flft (β ∷ []) fullShare) ⊛ ‵ (lent-of u8 b₁ o₁ (s .out) β ε)) ∷ []) ∵ says ! (ends, positive) $ split ! $ move ! (2 ∷ []) $ split ! $
+    asks₆ y-is takes x-is α δ β ε =
+        qed W ((‵ (flft (α ∷ []) fullShare) ⊛ ‵ (shared-of u32 b₂ o₂ us α δ)) ∷ (‵ (flft (β ∷ []) fullShare) ⊛ ‵ (lent-of u8 b₁ o₁ (s .out) β ε)) ∷ []) ∵ says ! takes $ split ! $ move ! (2 ∷ []) $ split ! $
         -- [β's token; the output; α's token; the page list]
         nothing ! $ move ! (2 ∷ 0 ∷ []) $ fjoin ! $ move ! (3 ∷ 0 ∷ []) $ fjoin ! $ also ! an-outcome x′ x-is $ also ! a-reading y y-is $ also ! a-progress (s .progress) (s .progress-is) $
         nothing ! $ move ! (2 ∷ 0 ∷ []) $ join ! $ move ! (2 ∷ 0 ∷ []) $ join ! $ done !
@@ -259,34 +258,41 @@ module _ {M : Type 1} (𝓤 : URA M) (H : Heap 𝓤) (A : Atoms 𝓤) (W : Given
     abbrev ens₆ : ℕ → GName → ℕ → GName → Progress → SProp 𝓤
     ens₆ α δ β ε p = ensured 𝓤 H A g₆.ended (g₆.clauses 𝓤 H A mem run) (α ∷ [], (β ∷ [], tt)) (args₆ δ ε) tt p
 
-    says₆ : (α : ℕ) (δ : GName) (β : ℕ) (ε : GName) (p : Progress) → ent 𝓤 (ens₆ α δ β ε p) (mean 𝓤 H A (some (λ (vs : List ℕ). ‵ (finally u8 ε vs) ⊛ raw (fact 𝓤 (Past (here s) y x′ us p vs)))))
+    says₆ : (α : ℕ) (δ : GName) (β : ℕ) (ε : GName) (p : Progress) → ent 𝓤 (ens₆ α δ β ε p) (mean 𝓤 H A (some (λ (vs : List ℕ). ‵ (finally u8 ε vs) ⊛ raw (fact 𝓤 (Past (s .progress) (s .out) y x′ us p vs)))))
     says₆ α δ β ε p =
         qed W (some (λ (ws : Unit {0} × (Unit {0} × (Unit {0} × (Unit {0} × (List ℕ × Unit {0}))))). ‵ (lasts g₆.ended (α ∷ [], (β ∷ [], tt)) (args₆ δ ε) ws) ⊛
-        (raw (fact 𝓤 (p ≡ progress-past (here s) y x′ us)) ⊛ raw (fact 𝓤 (ws .1 .1 .1 .1 .0 ≡ out-past (here s) y x′ us)))) ∷ []) ∵
+        (raw (fact 𝓤 (p ≡ progress-past (s .progress) (s .out) y x′ us)) ⊛ raw (fact 𝓤 (ws .1 .1 .1 .1 .0 ≡ out-past (s .progress) (s .out) y x′ us)))) ∷ []) ∵
         pick ! (λ ws. split ! $ fsplit ! $ drop ! $ fsplit ! $ drop ! $ fsplit ! $ drop ! $ fsplit ! $ drop ! $ fsplit ! $ fsplit ! $ keep ! (3 ∷ 0 ∷ []) $
-        split ! $ heard ! (p ≡ progress-past (here s) y x′ us) (λ e. heard ! (ws .1 .1 .1 .1 .0 ≡ out-past (here s) y x′ us) (λ e′.
-        show ! (λ (vs : List ℕ). mean 𝓤 H A (‵ (finally u8 ε vs) ⊛ raw (fact 𝓤 (Past (here s) y x′ us p vs)))) (ws .1 .1 .1 .1 .0) $
-        frame ! $ use0 W (raw (fact 𝓤 (Past (here s) y x′ us p (ws .1 .1 .1 .1 .0)))) (factI 𝓤 (Past (here s) y x′ us p (ws .1 .1 .1 .1 .0)) (emp 𝓤) (e, e′)) $ done !)))
+        split ! $ heard ! (p ≡ progress-past (s .progress) (s .out) y x′ us) (λ e. heard ! (ws .1 .1 .1 .1 .0 ≡ out-past (s .progress) (s .out) y x′ us) (λ e′.
+        show ! (λ (vs : List ℕ). mean 𝓤 H A (‵ (finally u8 ε vs) ⊛ raw (fact 𝓤 (Past (s .progress) (s .out) y x′ us p vs)))) (ws .1 .1 .1 .1 .0) $
+        frame ! $ use0 W (raw (fact 𝓤 (Past (s .progress) (s .out) y x′ us p (ws .1 .1 .1 .1 .0)))) (factI 𝓤 (Past (s .progress) (s .out) y x′ us p (ws .1 .1 .1 .1 .0)) (emp 𝓤) (e, e′)) $ done !)))
 
   -- what the function ensures of its answer, the last output and the last page list
   abbrev Ran : Running → List ℕ → List ℕ → Type 0
-  Ran z vs us = let t = ran r bs ps zs in (z .progress ≡ t .progress) × (z .table ≡ t .table) × (vs ≡ t .out) × (us ≡ t .page)
+  Ran z vs us = standOf z us bs vs ≡ ran (standOf r ps bs zs)
 
   -- where there is no other lap, the run has come to where the turn stands
   has-run : (s : States) → Goes s false → (z : Running) → (z .progress ≡ s .progress) × (z .table ≡ s .table) → Ran z (s .out) (s .page)
   has-run s halts z e =
-      let h = sym (s .goes-to ∙ stays bs (here s) (s .progress .left) halts) in
-      (e .0 ∙ ap (λ (t : Stand). t .progress) h, e .1 ∙ ap (λ (t : Stand). t .table) h, ap (λ (t : Stand). t .out) h, ap (λ (t : Stand). t .page) h)
+      ap₂ (λ p xs. standAt p xs (s .page) bs (s .out)) (e .0) (e .1)
+      ∙ sym (s .goes-to ∙ no-lap (s .progress) (s .table) (s .page) bs (s .out) (s .ready) halts)
 
-  exits : (z : Running) (vs us : List ℕ) → Within (z .progress .input) (length bs) → Ran z vs us → length vs ≡ length zs → length us ≡ length ps → Is (type-of a-running) z (a-running .spell z ∷ [])
+  exits : (z : Running) (vs us : List ℕ) → CanLay (z .progress) (length bs) (length vs) (length us) → Ran z vs us → length vs ≡ length zs → length us ≡ length ps → Is (type-of a-running) z (a-running .spell z ∷ [])
       → ent 𝓤 (sep 𝓤 (sem 𝓤 H A (fobs γ₁ (codedHoleys u8 .code (heres u8 vs)))) (sep 𝓤 (sem 𝓤 H A (fbor κ₁ (Held u8 (length vs) b₁ o₁ γ₁))) (sep 𝓤 (A .lft κ₁ q₁)
       (sep 𝓤 (sem 𝓤 H A (fobs γ₂ (codedHoleys u32 .code (heres u32 us)))) (sep 𝓤 (sem 𝓤 H A (fbor κ₂ (Held u32 (length us) b₂ o₂ γ₂))) (sep 𝓤 (A .lft κ₂ q₂) (A .lft κ q))))))) (Post (a-running .spell z))
   exits z vs us h e l l′ is =
       qed W (‵ (fobs γ₁ (codedHoleys u8 .code (heres u8 vs))) ∷ ‵ (fbor κ₁ (Held u8 (length vs) b₁ o₁ γ₁)) ∷ ‵ (flft κ₁ q₁) ∷ ‵ (fobs γ₂ (codedHoleys u32 .code (heres u32 us))) ∷ ‵ (fbor κ₂ (Held u32 (length us) b₂ o₂ γ₂)) ∷ ‵ (flft κ₂ q₂) ∷ ‵ (flft κ q) ∷ []) ∵
-      suffices ! _ (ends-at 𝓤 H A f.ended stayed (f.clauses 𝓤 H A mem run) W bound (a-running .spell z) z (tt, (tt, (vs, (us, tt)))) (tt, (tt, (l, (l′, tt))))) $ says-all ! (five-facts 𝓤 H A W h (e .0) (e .1) (e .2) (e .3)) $
+      suffices ! _ (ends-at 𝓤 H A f.ended stayed (f.clauses 𝓤 H A mem run) W bound (a-running .spell z) z (tt, (tt, (vs, (us, tt)))) (tt, (tt, (l, (l′, tt))))) $ says-all ! (two-given 𝓤 h e) $
       -- [the output's reference and token; the page list's; the input's token]
       move ! (3 ∷ 4 ∷ []) $ held ! u32 b₂ o₂ γ₂ ps us room₂ l′ $ nothing ! $ move ! (1 ∷ 0 ∷ []) $ fjoin ! $ move ! (1 ∷ 2 ∷ []) $ held ! u8 b₁ o₁ γ₁ zs vs room₁ l $ fjoin ! $ nothing ! $ fjoin ! $ nothing ! $ fjoin ! $
       nothing ! $ move ! (3 ∷ 0 ∷ []) $ join ! $ move ! (2 ∷ 0 ∷ []) $ join ! $ move ! (2 ∷ 0 ∷ []) $ join ! $ frame ! $ frame ! $ owned ! (type-of a-running) (Is (type-of a-running)) (a-running .makes 𝓤 H A W) z (a-running .spell z ∷ []) is $ done !
+
+  -- a turn leaves room for the lines of the next
+  ready-on : (s : States) → Goes s true → (y : Reading) → Takes y (s .progress .input) → (x′ : Outcome) (us : List ℕ) → length us ≡ length ps → (p′ : Progress) (vs : List ℕ) → length vs ≡ length (s .out)
+      → p′ ≡ progress-past (s .progress) (s .out) y x′ us → CanLay p′ (length bs) (length vs) (length us)
+  ready-on s go y takes x′ us us-long p′ vs e h =
+      subst (λ (m : ℕ). CanLay p′ (length bs) m (length us)) (sym e) (subst (CanLay p′ (length bs) (length (s .out))) (s .page-long ∙ sym us-long)
+      (past-ready (s .progress) (s .out) y x′ us (length bs) (length (s .out)) (length (s .page)) (s .ready) go takes p′ h))
 
   module _ (𝓣 : Tables 𝓤 H) (known : Knows 𝓤 H A mem run (𝓣 .C)) (l₀ l₁ l₂ l₃ l₄ l₅ l₆ l₇ l₈ l₉ l₁₀ l₁₁ l₁₂ l₁₃ l₁₄ l₁₅ l₁₆ l₁₇ l₁₈ l₁₉ l₂₀ l₂₁ : ℕ) where
     abbrev shared : Ty
@@ -316,14 +322,14 @@ module _ {M : Type 1} (𝓤 : URA M) (H : Heap 𝓤) (A : Atoms 𝓤) (W : Given
     fm = fmOf 𝓤 H (W .laws) 𝓣
 
     -- the end of a turn: the line is laid
-    ends-turn : (s : States) (z : Bool) → 0 < s .progress .left → (y : Reading) → Takes y (s .progress .input) → Is (type-of a-reading) y (a-reading .spell y ∷ []) → (w : Request) (n : ℕ) (x′ : Outcome) → Is (type-of an-outcome) x′ (an-outcome .spell x′ ∷ []) → (xs : List Process) → Is Table xs (a-table .spell xs ∷ []) → (us : List ℕ) → length us ≡ length ps → (m : ℕ) (ps′ : List ℕ)
-        → ((p′ : Progress) (vs : List ℕ) → Past (here s) y x′ us p′ vs → Onward p′ xs us vs)
+    ends-turn : (s : States) (z : Bool) → Goes s true → (y : Reading) → Takes y (s .progress .input) → Is (type-of a-reading) y (a-reading .spell y ∷ []) → (w : Request) (n : ℕ) (x′ : Outcome) → Is (type-of an-outcome) x′ (an-outcome .spell x′ ∷ []) → (xs : List Process) → Is Table xs (a-table .spell xs ∷ []) → (us : List ℕ) → length us ≡ length ps → (m : ℕ) (ps′ : List ℕ)
+        → ((p′ : Progress) (vs : List ℕ) → Past (s .progress) (s .out) y x′ us p′ vs → Onward p′ xs us vs)
         → Sq W (‵ (flft κ q) ∷ ‵ (shared-own u8 κ b o γ bs) ∷ ‵ (fat fullShare (tyArray Pr′.mir 8) l₅ 0 (a-table .spell xs))
         ∷ ‵ (row u32 fullShare us b₂ o₂) ∷ ‵ (fobor κ₂ q₂ (Held u32 (length ps) b₂ o₂ γ₂)) ∷ ‵ (fobs γ₂ (codedHoleys u32 .code (heres u32 ps))) ∷ ‵ (fauth γ₂ (codedHoleys u32 .code (heres u32 ps)))
         ∷ ‵ (row u8 fullShare (s .out) b₁ o₁) ∷ ‵ (fobor κ₁ q₁ (Held u8 (length zs) b₁ o₁ γ₁)) ∷ ‵ (fobs γ₁ (codedHoleys u8 .code (heres u8 zs))) ∷ ‵ (fauth γ₁ (codedHoleys u8 .code (heres u8 zs)))
         ∷ ‵ (froom (tyArray Pr′.mir 8) l₂₁ 0) ∷ ‵ (fdies (tyArray Pr′.mir 8) l₂₁) ∷ ‵ (froom (sliceTy (tyRef erased mut (tyInt w8))) l₂₀ 0) ∷ ‵ (fdies (sliceTy (tyRef erased mut (tyInt w8))) l₂₀) ∷ ‵ (froom (tyRef erased mut (tyInt w8)) l₁₉ 0) ∷ ‵ (fdies (tyRef erased mut (tyInt w8)) l₁₉) ∷ ‵ (froom (sliceTy (tyRef erased imm (tyInt w32))) l₁₈ 0) ∷ ‵ (fdies (sliceTy (tyRef erased imm (tyInt w32))) l₁₈) ∷ ‵ (froom (tyRef erased imm (tyInt w32)) l₁₇ 0) ∷ ‵ (fdies (tyRef erased imm (tyInt w32)) l₁₇) ∷ ‵ (fat fullShare (sliceTy (tyRef erased mut (tyInt w32))) l₁₆ 0 (sliceVal (b₂, o₂) (length ps′))) ∷ ‵ (fdies (sliceTy (tyRef erased mut (tyInt w32))) l₁₆) ∷ ‵ (fat fullShare (tyRef erased mut (tyInt w32)) l₁₅ 0 (vptr b₂ o₂)) ∷ ‵ (fdies (tyRef erased mut (tyInt w32)) l₁₅) ∷ ‵ (fat fullShare (sliceTy (tyRef erased mut (pointee (Row .written)))) l₁₄ 0 (sliceVal (l₅, 0) m)) ∷ ‵ (fdies (sliceTy (tyRef erased mut (pointee (Row .written)))) l₁₄) ∷ ‵ (fat fullShare (tyRef erased mut (pointee (Table .written))) l₁₃ 0 (vptr l₅ 0)) ∷ ‵ (fdies (tyRef erased mut (pointee (Table .written))) l₁₃) ∷ ‵ (fat fullShare Q′.mir l₁₂ 0 (a-request .spell w)) ∷ ‵ (fdies Q′.mir l₁₂) ∷ ‵ (fat fullShare (tyInt w64) l₁₁ 0 (vint w64 (length zs))) ∷ ‵ (fdies (tyInt w64) l₁₁) ∷ ‵ (fat fullShare tyBool l₁₀ 0 (vbool z)) ∷ ‵ (fdies tyBool l₁₀) ∷ ‵ (fat fullShare O′.mir l₉ 0 (an-outcome .spell x′)) ∷ ‵ (fdies O′.mir l₉) ∷ ‵ (fat fullShare (tyInt w64) l₈ 0 (vint w64 n)) ∷ ‵ (fdies (tyInt w64) l₈) ∷ ‵ (fat fullShare X′.mir l₇ 0 (a-reading .spell y)) ∷ ‵ (fdies X′.mir l₇) ∷ ‵ (fat fullShare P′.mir l₆ 0 (a-progress .spell (s .progress))) ∷ ‵ (fdies P′.mir l₆) ∷ ‵ (fdies (tyArray Pr′.mir 8) l₅) ∷ ‵ (fat fullShare lent-page l₄ 0 (sliceVal (b₂, o₂) (length ps))) ∷ ‵ (fdies lent-page l₄) ∷ ‵ (fat fullShare lent-out l₃ 0 (sliceVal (b₁, o₁) (length zs))) ∷ ‵ (fdies lent-out l₃) ∷ ‵ (fat fullShare shared l₂ 0 (sliceVal (b, o) (length bs))) ∷ ‵ (fdies shared l₂) ∷ ‵ (fat fullShare R′.mir l₁ 0 (a-running .spell r)) ∷ ‵ (fdies R′.mir l₁) ∷ ‵ (froom R′.mir l₀ 0) ∷ ‵ (fdies R′.mir l₀) ∷ []) (runs (𝓣 .C) (𝓣 .Λ) En (after 11 body.turn-1) (anyQ (Turned s)))
     unfolding afterTurn
-    ends-turn s z positive y ends y-is w n x′ x-is xs xs-is us us-long m ps′ on =
+    ends-turn s z go y takes y-is w n x′ x-is xs xs-is us us-long m ps′ on =
         assigns ! (addr ! (from ! (fld ! refl (hop ! (look-in ! 44 (sub ! 0 refl (whole !))) (stop !))))) (from ! (stop !)) (init ! 19 refl (tt, tt)) $
         assigns ! (agg ! (and-then ! (load ! (from ! (stop !)) (look ! 19 refl)) (and-then ! (load ! (from ! (fld ! refl (stop !))) (look-in ! 44 (sub ! 1 refl (whole !)))) (no-more !)))) (from ! (stop !)) (init ! 17 refl (tt, (tt, (record { fits = room₂ .0 }, tt)))) $
         assigns ! (addr ! (from ! (fld ! refl (hop ! (look-in ! 46 (sub ! 0 refl (whole !))) (stop !))))) (from ! (stop !)) (init ! 15 refl (tt, tt)) $
@@ -332,12 +338,12 @@ module _ {M : Type 1} (𝓤 : URA M) (H : Heap 𝓤) (A : Atoms 𝓤) (W : Given
         rewrite ! 13 (λ (i : ℕ). ‵ (fat fullShare (sliceTy (tyRef erased mut (tyInt w8))) l₂₀ 0 (sliceVal (b₁, o₁) i))) (sym (s .out-long)) refl $
         move ! (3 ∷ 7 ∷ []) $
         -- [the page list; the output; the token; the input; the table; what closes each; _21; …; and so on]
-        calls-shared-lent ! fm (G₆ 𝓤 H A mem run) (known .5) u32 b₂ o₂ us (list-room u32 us us-long room₂) u8 b₁ o₁ (s .out) (list-room u8 (s .out) (s .out-long) room₁) (to₆ s y x′ us) (asks₆ s y x′ us y-is ends positive x-is) a-progress (ens₆ s y x′ us) (Past (here s) y x′ us) (says₆ s y x′ us) (λ α δ β ε v. id⊢ 𝓤 _)
+        calls-shared-lent ! fm (G₆ 𝓤 H A mem run) (known .5) u32 b₂ o₂ us (list-room u32 us us-long room₂) u8 b₁ o₁ (s .out) (list-room u8 (s .out) (s .out-long) room₁) (to₆ s y x′ us) (asks₆ s y x′ us y-is takes x-is) a-progress (ens₆ s y x′ us) (Past (s .progress) (s .out) y x′ us) (says₆ s y x′ us) (λ α δ β ε v. id⊢ 𝓤 _)
         (λ α δ β ε. (and-then ! (load ! (from ! (stop !)) (look ! 42 refl)) (and-then ! (load ! (from ! (stop !)) (look ! 40 refl)) (and-then ! (load ! (from ! (stop !)) (look ! 36 refl)) (and-then ! (load ! (from ! (stop !)) (look ! 18 refl)) (and-then ! (load ! (from ! (stop !)) (look ! 14 refl)) (no-more !))))))) (λ p′ vs h e p-is.
         move ! (2 ∷ 3 ∷ 4 ∷ 0 ∷ 5 ∷ 6 ∷ 7 ∷ 1 ∷ []) $
         land-last ! (from ! (stop !)) (store ! 41 refl (a-progress .laws 𝓤 H A W .typed p′ _ p-is .0)) $
         forget ! 13 refl $ forget ! 15 refl $ forget ! 17 refl $ forget ! 19 refl $ forget ! 21 refl $ forget ! 23 refl $ forget ! 25 refl $ forget ! 27 refl $ forget ! 29 refl $ forget ! 31 refl $ forget ! 33 refl $ forget ! 35 refl $ forget ! 37 refl $ forget ! 39 refl $
-        again ! Fewer At s (next p′ (past-within (here s) y x′ us p′ (h .0) (length bs) ends (s .within)) p-is xs xs-is us us-long vs (e ∙ s .out-long) (on p′ vs h)) (past-fewer (here s) y x′ us p′ (h .0) positive))
+        again ! Fewer At s (next p′ p-is xs xs-is us us-long vs (e ∙ s .out-long) (ready-on s go y takes x′ us us-long p′ vs e (h .0)) (on p′ vs h)) (past-fewer (s .progress) (s .out) y x′ us (length bs) (length (s .out)) (length (s .page)) (s .ready) go takes p′ (h .0)))
 
     -- what was read is asked of the table
     asks-it : (s : States) (z : Bool) → Goes s true → (y : Reading) → (y ≡ nextIn (s .progress .input) bs) × Takes y (s .progress .input) → Is (type-of a-reading) y (a-reading .spell y ∷ []) → (w : Request) (n : ℕ) → n ≡ lentTo (s .progress .day) (requestOf y) → n ≤ 8 → Is (type-of a-usize) n (vint w64 n ∷ [])
@@ -355,12 +361,12 @@ module _ {M : Type 1} (𝓤 : URA M) (H : Heap 𝓤) (A : Atoms 𝓤) (W : Given
         rewrite ! 21 (λ (i : ℕ). ‵ (fat fullShare (sliceTy (tyRef erased mut (tyInt w32))) l₁₆ 0 (sliceVal (b₂, o₂) i))) (sym (s .page-long)) refl $
         move ! (2 ∷ []) $ table-out ! l₅ n (s .table) (a-table .spell (s .table)) (s .table-is) $ move ! (0 ∷ 4 ∷ []) $
         -- [the records that are lent; the page list; the other records; the token; the input; what closes the page list; the output, and what closes it; _21; …; and so on to _6; …; that _5 dies; _4; …; and so on to _0; …]
-        calls-lent-two ! fm (G₅ 𝓤 H A mem run) (known .4) Row l₅ 0 (take n (s .table)) (lent-room (s .table) (s .table-is) n few) u32 b₂ o₂ (s .page) (page-room s) (to₅ s y y-is n l₅) (asks₅ s y y-is n l₅) an-outcome (ens₅ s y y-is n l₅) (Asked (here s) y n) (says₅ s y y-is n l₅) (λ α δ β ε v. id⊢ 𝓤 _)
+        calls-lent-two ! fm (G₅ 𝓤 H A mem run) (known .4) Row l₅ 0 (take n (s .table)) (lent-room (s .table) (s .table-is) n few) u32 b₂ o₂ (s .page) (page-room s) (to₅ s y y-is n l₅) (asks₅ s y y-is n l₅) an-outcome (ens₅ s y y-is n l₅) (Asked (s .progress) (s .table) (s .page) y n) (says₅ s y y-is n l₅) (λ α δ β ε v. id⊢ 𝓤 _)
         (λ α δ β ε. (and-then ! (load ! (from ! (fld ! refl (stop !))) (look-in ! 43 (sub ! 0 refl (whole !)))) (and-then ! (load ! (from ! (stop !)) (look ! 27 refl)) (and-then ! (load ! (from ! (stop !)) (look ! 41 refl)) (and-then ! (load ! (from ! (stop !)) (look ! 23 refl)) (no-more !)))))) (λ x′ us us′ asked e e′ x-is.
         land ! (from ! (stop !)) (init ! 36 refl (an-outcome .laws 𝓤 H A W .typed x′ _ x-is .0)) $
         rewrite ! 2 (λ (i : ℕ). ‵ (row Row fullShare (rest-of n (s .table)) l₅ (offset (in-memory Row .size) 0 i))) (sym (e ∙ lent-long (s .table) (s .table-is) n few)) refl $
         move ! (0 ∷ 2 ∷ []) $ table-back ! l₅ us (rest-of n (s .table)) (whole-long (s .table) (s .table-is) n few us (e ∙ lent-long (s .table) (s .table-is) n few)) (λ t-is. move ! (2 ∷ 3 ∷ []) $
-        ends-turn s z (goes-left _ _ go) y (read .1) y-is w n x′ x-is (us ++ rest-of n (s .table)) t-is us′ (e′ ∙ s .page-long) (length (take n (s .table))) (s .page) (λ p′ vs h. s .goes-to ∙ goes-lap bs (here s) go y (read .0) n lent x′ us us′ asked p′ vs h)))
+        ends-turn s z go y (read .1) y-is w n x′ x-is (us ++ rest-of n (s .table)) t-is us′ (e′ ∙ s .page-long) (length (take n (s .table))) (s .page) (λ p′ vs h. s .goes-to ∙ lap-done (s .progress) (s .table) (s .page) bs (s .out) (s .ready) go y (read .0) n lent x′ us us′ asked p′ vs h)))
 
     -- a turn where a record can be run
     goes-on : (s : States) (z : Bool) → Goes s true
@@ -395,27 +401,27 @@ module _ {M : Type 1} (𝓤 : URA M) (H : Heap 𝓤) (A : Atoms 𝓤) (W : Given
         -- [obs of the output; its borrow and token; the page list's three; the input's token; the input; the table; _21; …; and so on to _0; …]
         returns ! (look ! 50 refl) $ forget ! 9 refl $ forget ! 29 refl $ forget ! 31 refl $ forget ! 39 refl $ forget ! 42 refl $ forget ! 44 refl $ forget ! 46 refl $ forget ! 48 refl $ forget ! 50 refl $ forget ! 8 refl $
         move ! (50 ∷ 51 ∷ []) $ free1 ! $ move ! (48 ∷ 49 ∷ []) $ free1 ! $ move ! (46 ∷ 47 ∷ []) $ free1 ! $ move ! (44 ∷ 45 ∷ []) $ free1 ! $ move ! (42 ∷ 43 ∷ []) $ free1 ! $ move ! (8 ∷ 41 ∷ []) $ free1 ! $ move ! (38 ∷ 39 ∷ []) $ free1 ! $ move ! (36 ∷ 37 ∷ []) $ free1 ! $ move ! (34 ∷ 35 ∷ []) $ free1 ! $ move ! (32 ∷ 33 ∷ []) $ free1 ! $ move ! (30 ∷ 31 ∷ []) $ free1 ! $ move ! (28 ∷ 29 ∷ []) $ free1 ! $ move ! (26 ∷ 27 ∷ []) $ free1 ! $ move ! (24 ∷ 25 ∷ []) $ free1 ! $ move ! (22 ∷ 23 ∷ []) $ free1 ! $ move ! (20 ∷ 21 ∷ []) $ free1 ! $ move ! (18 ∷ 19 ∷ []) $ free1 ! $ move ! (16 ∷ 17 ∷ []) $ free1 ! $ move ! (14 ∷ 15 ∷ []) $ free1 ! $ move ! (12 ∷ 13 ∷ []) $ free1 ! $ move ! (10 ∷ 11 ∷ []) $ free1 ! $ move ! (8 ∷ 9 ∷ []) $ free1 ! $ free0 ! $
-        keep ! (0 ∷ 1 ∷ 2 ∷ 3 ∷ 4 ∷ 5 ∷ 6 ∷ []) $ by ! (exits z (s .out) (s .page) (subst (λ (i : Progress). Within (i .input) (length bs)) (sym (e .0)) (s .within)) (has-run s halts z e) (s .out-long) (s .page-long) z-is))
+        keep ! (0 ∷ 1 ∷ 2 ∷ 3 ∷ 4 ∷ 5 ∷ 6 ∷ []) $ by ! (exits z (s .out) (s .page) (subst (λ (i : Progress). CanLay i (length bs) (length (s .out)) (length (s .page))) (sym (e .0)) (s .ready)) (has-run s halts z e) (s .out-long) (s .page-long) z-is))
 
     turn : (s : States) → Sq W (At s) (runs (𝓣 .C) (𝓣 .Λ) En body.turn-1 (anyQ (Turned s)))
     unfolding afterTurn
     turn s =
         assigns ! (of-opd ! (load ! (from ! (fld ! refl (stop !))) (look-in ! 46 (sub ! 1 refl (whole !))))) (from ! (stop !)) (init ! 31 refl (tt, record { fits = room₁ .0 })) $
         calls-data ! fm (G₁ 𝓤 H A mem run) (known .0) ((tt, tt, tt, (s .progress, (length zs, tt)), (a-progress .spell (s .progress) ∷ [], (vint w64 (length zs) ∷ [], tt))), tt) (qed W [] ∵ nothing ! $ also ! a-usize (length zs) (refl, room₁ .0) $ also ! a-progress (s .progress) (s .progress-is) $ nothing ! $ join ! $ frame ! $ done !)
-        a-bool g₁.ended (g₁.clauses 𝓤 H A mem run) tt (s .progress, (length zs, tt)) tt (λ r. r) (λ z. z ≡ goes (s .progress) (length zs)) (λ z ws. id⊢ 𝓤 _) (λ v. id⊢ 𝓤 _) (and-then ! (load ! (from ! (stop !)) (look ! 42 refl)) (and-then ! (load ! (from ! (stop !)) (look ! 32 refl)) (no-more !))) (λ z e z-is.
+        a-bool g₁.ended (g₁.clauses 𝓤 H A mem run) tt (s .progress, (length zs, tt)) tt (λ r. r) (λ z. z ≡ canGo (s .progress) (length zs)) (λ z ws. id⊢ 𝓤 _) (λ v. id⊢ 𝓤 _) (and-then ! (load ! (from ! (stop !)) (look ! 42 refl)) (and-then ! (load ! (from ! (stop !)) (look ! 32 refl)) (no-more !))) (λ z e z-is.
         land ! (from ! (stop !)) (init ! 33 refl (a-bool .laws 𝓤 H A W .typed z _ z-is .0)) $
         tests ! (load ! (from ! (stop !)) (look ! 33 refl))
         -- the next record is run
-        (λ go. goes-on s z (ap (goes (s .progress)) (s .out-long) ∙ sym e ∙ is-true z go))
+        (λ go. goes-on s z (ap (canGo (s .progress)) (s .out-long) ∙ sym e ∙ is-true z go))
         -- the loop is left
-        (λ stop′. exec ! (𝓣 .C) (𝓣 .Λ) En body.t-4 (atRet En Post) $ leaves s z (ap (goes (s .progress)) (s .out-long) ∙ sym e ∙ is-false z stop′)))
+        (λ stop′. exec ! (𝓣 .C) (𝓣 .Λ) En body.t-4 (atRet En Post) $ leaves s z (ap (canGo (s .progress)) (s .out-long) ∙ sym e ∙ is-false z stop′)))
 
     -- the loop, and what comes after it
-    loops-on : (h : Within (r .progress .input) (length bs)) → Sq W (At (first-state h)) (runs (𝓣 .C) (𝓣 .Λ) En body.t-3 (atRet En Post))
+    loops-on : (h : CanLay (r .progress) (length bs) (length zs) (length ps)) → Sq W (At (first-state h)) (runs (𝓣 .C) (𝓣 .Λ) En body.t-3 (atRet En Post))
     loops-on h = first ! $ blocks ! $ loops ! 𝓣 Fewer fewer-ends At turn (first-state h)
 
     -- the body, once the parameters are passed
-    begins : (h : Within (r .progress .input) (length bs))
+    begins : (h : CanLay (r .progress) (length bs) (length zs) (length ps))
         → Sq W (‵ (froom (tyArray Pr′.mir 8) l₂₁ 0) ∷ ‵ (fdies (tyArray Pr′.mir 8) l₂₁) ∷ ‵ (froom (sliceTy (tyRef erased mut (tyInt w8))) l₂₀ 0) ∷ ‵ (fdies (sliceTy (tyRef erased mut (tyInt w8))) l₂₀) ∷ ‵ (froom (tyRef erased mut (tyInt w8)) l₁₉ 0) ∷ ‵ (fdies (tyRef erased mut (tyInt w8)) l₁₉) ∷ ‵ (froom (sliceTy (tyRef erased imm (tyInt w32))) l₁₈ 0) ∷ ‵ (fdies (sliceTy (tyRef erased imm (tyInt w32))) l₁₈) ∷ ‵ (froom (tyRef erased imm (tyInt w32)) l₁₇ 0) ∷ ‵ (fdies (tyRef erased imm (tyInt w32)) l₁₇) ∷ ‵ (froom (sliceTy (tyRef erased mut (tyInt w32))) l₁₆ 0) ∷ ‵ (fdies (sliceTy (tyRef erased mut (tyInt w32))) l₁₆) ∷ ‵ (froom (tyRef erased mut (tyInt w32)) l₁₅ 0) ∷ ‵ (fdies (tyRef erased mut (tyInt w32)) l₁₅) ∷ ‵ (froom (sliceTy (tyRef erased mut (pointee (Row .written)))) l₁₄ 0) ∷ ‵ (fdies (sliceTy (tyRef erased mut (pointee (Row .written)))) l₁₄) ∷ ‵ (froom (tyRef erased mut (pointee (Table .written))) l₁₃ 0) ∷ ‵ (fdies (tyRef erased mut (pointee (Table .written))) l₁₃) ∷ ‵ (froom Q′.mir l₁₂ 0) ∷ ‵ (fdies Q′.mir l₁₂) ∷ ‵ (froom (tyInt w64) l₁₁ 0) ∷ ‵ (fdies (tyInt w64) l₁₁) ∷ ‵ (froom tyBool l₁₀ 0) ∷ ‵ (fdies tyBool l₁₀) ∷ ‵ (froom O′.mir l₉ 0) ∷ ‵ (fdies O′.mir l₉) ∷ ‵ (froom (tyInt w64) l₈ 0) ∷ ‵ (fdies (tyInt w64) l₈) ∷ ‵ (froom X′.mir l₇ 0) ∷ ‵ (fdies X′.mir l₇) ∷ ‵ (froom P′.mir l₆ 0) ∷ ‵ (fdies P′.mir l₆) ∷ ‵ (froom (tyArray Pr′.mir 8) l₅ 0) ∷ ‵ (fdies (tyArray Pr′.mir 8) l₅) ∷ ‵ (fat fullShare lent-page l₄ 0 (sliceVal (b₂, o₂) (length ps))) ∷ ‵ (fdies lent-page l₄) ∷ ‵ (fat fullShare lent-out l₃ 0 (sliceVal (b₁, o₁) (length zs))) ∷ ‵ (fdies lent-out l₃) ∷ ‵ (fat fullShare shared l₂ 0 (sliceVal (b, o) (length bs))) ∷ ‵ (fdies shared l₂) ∷ ‵ (fat fullShare R′.mir l₁ 0 (a-running .spell r)) ∷ ‵ (fdies R′.mir l₁) ∷ ‵ (froom R′.mir l₀ 0) ∷ ‵ (fdies R′.mir l₀)
         ∷ ‵ (flft κ q) ∷ ‵ (shared-own u8 κ b o γ bs) ∷ ‵ (fobs γ₂ (codedHoleys u32 .code (heres u32 ps))) ∷ ‵ (fbor κ₂ (Held u32 (length ps) b₂ o₂ γ₂)) ∷ ‵ (flft κ₂ q₂) ∷ ‵ (fobs γ₁ (codedHoleys u8 .code (heres u8 zs))) ∷ ‵ (fbor κ₁ (Held u8 (length zs) b₁ o₁ γ₁)) ∷ ‵ (flft κ₁ q₁) ∷ []) (runs (𝓣 .C) (𝓣 .Λ) En body.t-1 (atRet En Post))
     begins h =
@@ -423,7 +429,7 @@ module _ {M : Type 1} (𝓤 : URA M) (H : Heap 𝓤) (A : Atoms 𝓤) (W : Given
         assigns ! (of-opd ! (load ! (from ! (fld ! refl (stop !))) (look-in ! 40 (sub ! 0 refl (whole !))))) (from ! (stop !)) (init ! 30 refl (a-progress .laws 𝓤 H A W .typed (r .progress) _ (progress-of r r-is) .0)) $
         move ! (49 ∷ 50 ∷ 51 ∷ []) $ opens-slice ! tt u8 zs b₁ o₁ $ move ! (50 ∷ 51 ∷ 52 ∷ []) $ opens-slice ! tt u32 ps b₂ o₂ $ move ! (52 ∷ 53 ∷ 40 ∷ []) $ loops-on h
 
-  walk : (𝓣 : Tables 𝓤 H) → Knows 𝓤 H A mem run (𝓣 .C) → Within (r .progress .input) (length bs)
+  walk : (𝓣 : Tables 𝓤 H) → Knows 𝓤 H A mem run (𝓣 .C) → CanLay (r .progress) (length bs) (length zs) (length ps)
       → ent 𝓤 (onEntry 𝓤 H A f.signature (κ, (κ₁, (κ₂, tt))) (q, (q₁, (q₂, tt))) x at) (WpFn 𝓤 H (𝓣 .C) (𝓣 .Λ) code.function (a-running .spell r ∷ sliceVal (b, o) (length bs) ∷ sliceVal (b₁, o₁) (length zs) ∷ sliceVal (b₂, o₂) (length ps) ∷ []) Post)
   walk 𝓣 known h =
       qed W ((‵ (flft κ q) ⊛ (‵ (flft κ₁ q₁) ⊛ (‵ (flft κ₂ q₂) ⊛ ‵ ftrue))) ∷ ‵ (owns ((type-of a-running) ∷ ShrSlice (named 0) κ u8 ∷ MutSlice (named 1) κ₁ u8 ∷ MutSlice (named 2) κ₂ u32 ∷ []) x at) ∷ []) ∵
@@ -440,7 +446,7 @@ module _ {M : Type 1} (𝓤 : URA M) (H : Heap 𝓤) (A : Atoms 𝓤) (W : Given
       (WpFn 𝓤 H (𝓣 .C) (𝓣 .Λ) code.function) (WpFn-mono 𝓤 H (W .laws) 𝓣 code.function)
       (walked 𝓤 H A f.ended stayed (f.clauses 𝓤 H A mem run) (WpFn 𝓤 H (𝓣 .C) (𝓣 .Λ) code.function) (λ κs. ((λ z. a-running .spell z ∷ []), (slice-vals, (slice-vals, (slice-vals, tt)))))
       (λ κs. (a-running .tells, (shr-slice-tells (named 0) (κs .0) u8, (mut-slice-tells (named 1) (κs .1 .0) u8, (mut-slice-tells (named 2) (κs .1 .1 .0) u32, tt)))))
-      (λ κs qs bounds a gh are. needs 𝓤 (Within (a .0 .progress .input) (length (now (a .1 .0)))) _
+      (λ κs qs bounds a gh are. needs 𝓤 (CanLay (a .0 .progress) (length (now (a .1 .0))) (length (now (a .1 .1 .0))) (length (now (a .1 .1 .1 .0)))) _
       (walk 𝓤 H A W mem run (κs .0) (κs .1 .0) (κs .1 .1 .0) (qs .0) (qs .1 .0) (qs .1 .1 .0) (a .0) (a .1 .0 .ptr .0) (a .1 .0 .ptr .1) (a .1 .0 .name) (a .1 .0 .now) (a .1 .1 .0 .ptr .0) (a .1 .1 .0 .ptr .1) (a .1 .1 .0 .name) (a .1 .1 .0 .now)
       (a .1 .1 .1 .0 .ptr .0) (a .1 .1 .1 .0 .ptr .1) (a .1 .1 .1 .0 .name) (a .1 .1 .1 .0 .now) (are .0) (are .1 .0 .0 .1) (are .1 .1 .0 .0 .1) (are .1 .1 .1 .0 .0 .1) 𝓣 known)))
 

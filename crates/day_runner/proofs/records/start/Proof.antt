@@ -16,7 +16,7 @@ with-table-requires c κs = search needs
 
 returns : tie.Need-returns
 returns c = (
-  c .with-table .ensures .0 ∙ ap (λ d. record { day = d; input = record { at = 0; end = 0; last = false }; written = 0; ended = false; left = 0 }) (c .before .before .blank .ensures),
+  c .with-table .ensures .0 ∙ ap (λ d. record { day = d; input = record { at = 0; end = 0; last = false; failed = false }; written = 0; ended = false }) (c .before .before .blank .ensures),
   c .with-table .ensures .1 ∙ c .before .blank2 .ensures,
 )
 
