@@ -1,17 +1,17 @@
 -- What demand 3 does not let pass: short histories of two processes, each with one answer that a sentence of document 01 forbids.
-use Prim.Native.Nat.{ℕ}
+use Prim.Native.Nat.{ℕ, zero, suc, _<_}
 use native.Mathlib.Omega.{arith}
 use mathlib.Core.Path.{_≡_, refl, ap, subst}
 use mathlib.Core.List.{List, [], _∷_, _++_}
-use mathlib.Core.Option.{none, some, Option·some-ne-none}
+use mathlib.Core.Option.{Option, none, some, Option·none-ne-some, Option·some-ne-none}
 use lib.ListN.{getD, replicate}
 use Rattle.snapshot.specs.declared.Answer.{Answer}
 use Rattle.snapshot.specs.declared.Answer.the-variants.{Refused, Opened, Called, Read, Page, Written}
 use Rattle.snapshot.specs.declared.Refusal.{Refusal}
 use Rattle.snapshot.specs.declared.Refusal.the-variants.{CountRange, CannotArise}
 use Rattle.snapshot.specs.Refusals.{numberOf}
-use Rattle.snapshot.specs.Tally.{Job, scan, update, Seen, opening, call, turn, Call, Tally, started, tallied}
-use Rattle.snapshot.specs.Demand.{Method, step, IsUpdate, Holds}
+use Rattle.snapshot.specs.Tally.{Job, scan, update, Seen, opening, call, turn, Call, Tally, started, instant, tallied}
+use Rattle.snapshot.specs.Demand.{Method, step, Among, IsUpdate, Holds}
 
 -- ---- histories
 
@@ -55,17 +55,21 @@ abbrev tallies : Tally ℕ → List Told → Tally ℕ
 tallies t [] = t
 tallies t (x ∷ xs) = tallies (tallied (λ e w. w) t (x .seen) (x .answer)) xs
 
+-- an item whose page list is empty
+abbrev says : Seen → Answer → Told
+says x a = record { seen = x; answer = a; page = [] }
+
 abbrev callBy : ℕ → Job → Told
-callBy d j = record { seen = call d j; answer = Called; page = [] }
+callBy d j = says (call d j) Called
 
 abbrev readBy : ℕ → Told
-readBy d = record { seen = turn d; answer = Read; page = [] }
+readBy d = says (turn d) Read
+
+abbrev writeBy : (d turns : ℕ) → Told
+writeBy d turns = says (turn d) (Written turns)
 
 abbrev pageBy : (d at turns : ℕ) → List ℕ → Told
 pageBy d at turns ws = record { seen = turn d; answer = Page 0 at turns; page = ws }
-
-abbrev writeBy : (d turns : ℕ) → Told
-writeBy d turns = record { seen = turn d; answer = Written turns; page = [] }
 
 -- process 1 writes 7 by event 4; process 2 calls a scan by event 3, and reads by event 5
 abbrev five : List Told
@@ -87,9 +91,65 @@ talliedFive =
 pub five-tallied : tallies (started 2 2 0) five ≡ talliedFive
 five-tallied = refl
 
--- demand 3 lets these follow, after which the day says so
+-- demand 3 lets these pass, after which the day says so: after the five, or from the start
 abbrev Passes : Left → List Told → Type 0
 Passes s xs = Holds told s talliedFive xs
+
+abbrev Begins : Left → List Told → Type 0
+Begins s xs = Holds told s (started 2 2 0) xs
+
+-- ---- what passes
+
+-- two processes that have not had their most turns
+abbrev Early : Option Call → Type 0
+Early none = Unit {0}
+Early (some c) = c .turns < most (c .job)
+
+two-patient : (a b : Option Call) → Early a → Early b →
+    (i : ℕ) (c : Call) → getD (a ∷ b ∷ []) i none ≡ some c → Early (some c)
+two-patient a b l m zero c q = subst Early q l
+two-patient a b l m (suc zero) c q = subst Early q m
+two-patient a b l m (suc (suc i)) c q = absurd (Option·none-ne-some c q)
+
+-- the first instant after the call and the last before the answer, with as many turns as a scan may take
+pub page-in-time : Passes (after 6) (pageBy 2 4 2 (7 ∷ 0 ∷ []) ∷ []) × Passes (after 6) (pageBy 2 5 2 (7 ∷ 0 ∷ []) ∷ [])
+unfolding step
+page-in-time = (in-time refl (omega arith) (omega arith), in-time refl (omega arith) (omega arith))
+  where
+    in-time : {at : ℕ} → (7 ∷ 0 ∷ []) ≡ instant talliedFive at → 3 < at → at < 6 →
+        Passes (after 6) (pageBy 2 at 2 (7 ∷ 0 ∷ []) ∷ [])
+    in-time q l m =
+        (((omega arith, omega arith), (refl, (refl, omega arith), q, l, m)), two-patient none none tt tt, (refl, refl))
+
+-- an update with as many turns as it may take
+pub written-in-time : Begins (after 4) (callBy 1 (update 1 7) ∷ replicate 2 (readBy 1) ++ writeBy 1 3 ∷ [])
+unfolding step
+written-in-time = (
+  (one, refl),
+  waits 0 (omega arith),
+  (
+    (one, tt),
+    waits 1 (omega arith),
+    (
+      (one, tt),
+      waits 2 (omega arith),
+      (
+        (one, (tt, (refl, omega arith))),
+        two-patient none none tt tt,
+        (refl, refl),
+      ),
+    ),
+  ),
+)
+  where
+    one : Among 2 1
+    one = (omega arith, omega arith)
+
+    had : ℕ → Option Call
+    had k = some (record { job = update 1 7; number = 1; turns = k })
+
+    waits : (k : ℕ) → k < 3 → (i : ℕ) (c : Call) → getD (had k ∷ none ∷ []) i none ≡ some c → Early (some c)
+    waits k l = two-patient (had k) none l tt
 
 -- ---- a page's instant and its words
 
@@ -120,7 +180,7 @@ pub page-too-late : ¬ Passes (after 7) (readBy 2 ∷ pageBy 2 4 3 (7 ∷ 0 ∷ 
 unfolding step
 page-too-late h = omega (arith, h .2 .0 .1 .1 .1)
 
-pub written-too-late : ¬ Holds told (after 5) (started 2 2 0) (callBy 1 (update 1 7) ∷ replicate 3 (readBy 1) ++ writeBy 1 4 ∷ [])
+pub written-too-late : ¬ Begins (after 5) (callBy 1 (update 1 7) ∷ replicate 3 (readBy 1) ++ writeBy 1 4 ∷ [])
 unfolding step
 written-too-late h = omega (arith, h .2 .2 .2 .2 .0 .1 .1 .1)
 
@@ -129,7 +189,7 @@ pub scan-still-waits : ¬ Passes (after 6) (readBy 2 ∷ [])
 unfolding step
 scan-still-waits h = omega (arith, h .1 1 (record { job = scan; number = 3; turns = 2 }) refl)
 
-pub update-still-waits : ¬ Holds told (after 4) (started 2 2 0) (callBy 1 (update 1 7) ∷ replicate 3 (readBy 1))
+pub update-still-waits : ¬ Begins (after 4) (callBy 1 (update 1 7) ∷ replicate 3 (readBy 1))
 unfolding step
 update-still-waits h = omega (arith, h .2 .2 .2 .1 0 (record { job = update 1 7; number = 1; turns = 3 }) refl)
 
@@ -144,7 +204,15 @@ pub turn-without-a-call : ¬ Passes (after 6) (readBy 1 ∷ [])
 unfolding step
 turn-without-a-call h = h .0 .1
 
-pub page-of-an-update : ¬ Holds told (after 3) (started 2 2 0) (callBy 1 (update 1 7) ∷ readBy 1 ∷ pageBy 1 2 2 (0 ∷ 0 ∷ []) ∷ [])
+pub page-without-a-call : ¬ Passes (after 6) (pageBy 1 4 1 (7 ∷ 0 ∷ []) ∷ [])
+unfolding step
+page-without-a-call h = h .0 .1
+
+pub written-without-a-call : ¬ Passes (after 6) (writeBy 1 1 ∷ [])
+unfolding step
+written-without-a-call h = h .0 .1
+
+pub page-of-an-update : ¬ Begins (after 3) (callBy 1 (update 1 7) ∷ readBy 1 ∷ pageBy 1 2 2 (0 ∷ 0 ∷ []) ∷ [])
 unfolding step
 page-of-an-update h = subst IsUpdate (h .2 .2 .0 .1 .0) tt
 
@@ -161,20 +229,34 @@ pub call-of-process-3 : ¬ Passes (after 6) (callBy 3 scan ∷ [])
 unfolding step
 call-of-process-3 h = omega (arith, h .0 .0 .1)
 
-abbrev refusedBy : Seen → Refusal → Told
-refusedBy x k = record { seen = x; answer = Refused k; page = [] }
+pub turn-of-process-0 : ¬ Begins (after 2) (callBy 1 scan ∷ readBy 0 ∷ [])
+unfolding step
+turn-of-process-0 h = omega (arith, h .2 .0 .0 .0)
+
+-- an answer that does not belong to its item
+pub call-answered-as-a-turn : ¬ Passes (after 6) (says (call 1 scan) Read ∷ [])
+unfolding step
+call-answered-as-a-turn h = h .0
+
+pub turn-answered-as-a-call : ¬ Passes (after 6) (says (turn 2) Called ∷ [])
+unfolding step
+turn-answered-as-a-call h = h .0
 
 -- "a further opening gets 10"
-pub further-opening : ¬ Passes (after 5) (refusedBy opening CountRange ∷ [])
+pub opened-again : ¬ Passes (after 5) (says opening Opened ∷ [])
+unfolding step
+opened-again h = h .0
+
+pub further-opening : ¬ Passes (after 5) (says opening (Refused CountRange) ∷ [])
 unfolding step
 further-opening h = omega (arith, ap numberOf (h .0))
 
 -- a day grown from an opening never gets 11
-pub call-gets-11 : ¬ Passes (after 5) (refusedBy (call 1 scan) CannotArise ∷ [])
+pub call-gets-11 : ¬ Passes (after 5) (says (call 1 scan) (Refused CannotArise) ∷ [])
 unfolding step
 call-gets-11 h = h .0 refl
 
-pub turn-gets-11 : ¬ Passes (after 5) (refusedBy (turn 2) CannotArise ∷ [])
+pub turn-gets-11 : ¬ Passes (after 5) (says (turn 2) (Refused CannotArise) ∷ [])
 unfolding step
 turn-gets-11 h = h .0 refl
 
