@@ -13,3 +13,4 @@ pub mod Traces
 pub mod Collects
 pub mod Attempts
 pub mod DoubleCollect
+pub mod Guards

@@ -9,4 +9,5 @@ pub mod Ties
 pub mod Deeds
 pub mod Demand3
 pub mod MarkedDays
+pub mod RefusedDays
 pub mod Figure3

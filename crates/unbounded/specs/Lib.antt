@@ -4,4 +4,5 @@ pub mod Processes
 pub mod Turns
 pub mod Days
 pub mod MarkedDays
+pub mod RefusedDays
 pub mod Figure3
