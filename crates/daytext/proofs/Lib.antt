@@ -1,5 +1,6 @@
--- Laws of numerals, of laying text and of the lines' lengths, and case A as it is printed.
+-- Laws of numerals, of laying text and of the lines' lengths, and cases A and B as they are printed.
 pub mod Numerals
 pub mod Laying
 pub mod Lengths
 pub mod CaseA
+pub mod CaseB
