@@ -81,7 +81,9 @@ fn begin_own(p: &mut Process, a: Access, k: Task)
     requires { ⌜ Sound a ⌝ }
     ensures { λ r. ⌜ now (p .exit) ≡ begunBy a k (now (p .entry)) ⌝ }
 {
-    *p = records::begun(a, *p);
+    let old = *p;
+    let empty = records::begun(a, old);
+    *p = empty;
     p.task = k;
 }
 
@@ -100,12 +102,17 @@ fn turn_own(p: &mut Process, a: Access, r: Register, f: Find)
 {
     let k = p.task;
     if tasks::ends(k, f) {
-        p.register = records::written(a, *p);
-        begin_own(p, a, tasks::idle());
+        let own = records::written(a, *p);
+        p.register = own;
+        let none = tasks::idle();
+        begin_own(p, a, none);
         return;
     }
-    *p = records::read(a, r, k, f, *p);
-    p.task = tasks::task_after(k, f);
+    let old = *p;
+    let q = records::read(a, r, k, f, old);
+    *p = q;
+    let next = tasks::task_after(k, f);
+    p.task = next;
 }
 
 // The same for record i of the table.

@@ -47,12 +47,14 @@ fn plan(day: Day, ps: &[Process], x: Request, words: usize) -> Check
     requires { ⌜ T (not (isOpening x)) ⌝ }
     ensures { λ c. ⌜ RefusedBy day (now (ps .entry)) x words (asOption c) ⌝ }
 {
-    let s = elements::survey(ps, surveys::survey_of(day));
+    let before = surveys::survey_of(day);
+    let s = elements::survey(ps, before);
     let c = checks::first_check(day, ps.len(), s, x, words);
     if checks::is_refused(c) {
         return c;
     }
-    let idle = elements::rests_at(ps, requests::index_in(x));
+    let i = requests::index_in(x);
+    let idle = elements::rests_at(ps, i);
     checks::last_check(s, x, idle)
 }
 
@@ -87,7 +89,8 @@ fn read_turn(day: Day, ps: &mut [Process], i: usize, k: Task, page: &mut [u32]) 
     ensures { λ x. ⌜ now (page .exit) ≡ pageBy (accessOf day k) (foundAt day (now (ps .entry)) i k) k (now (page .entry)) ⌝ }
 {
     let a = accesses::access_of(day, k);
-    let r = elements::register_at(ps, accesses::place_of(a));
+    let j = accesses::place_of(a);
+    let r = elements::register_at(ps, j);
     let f = elements::find_at(ps, i, a, r);
     finds::lay_page(a, k, f, page);
     elements::turn_at(ps, i, a, r, f);

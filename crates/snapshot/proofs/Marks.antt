@@ -44,7 +44,7 @@ none-moved i = nowhere 8 i
 module _ (moved : ℕ → Bool) (ms : List Bool) (j : ℕ) where
   pub lends-moved : lends moved ms j ≡ true → moved j ≡ true
   unfolding lends
-  lends-moved h = and-both (moved j) (isMoved ms j) h .0
+  lends-moved h = and-both (moved j) _ h .0
 
   pub lends-marked : lends moved ms j ≡ true → isMoved ms j ≡ true
   unfolding lends

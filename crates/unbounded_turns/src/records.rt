@@ -74,8 +74,10 @@ pub fn begun(a: Access, p: Process) -> Process
     while i < n {
         let first = q.first[i];
         let second = q.second[i];
-        q.first[i] = collects::lay(n, none, first);
-        q.second[i] = collects::lay(n, none, second);
+        let no_first = collects::lay(n, none, first);
+        q.first[i] = no_first;
+        let no_second = collects::lay(n, none, second);
+        q.second[i] = no_second;
         q.view[i] = 0;
         i += 1;
     }

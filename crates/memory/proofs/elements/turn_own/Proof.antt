@@ -71,8 +71,8 @@ turn-own-spec 𝓤 H 𝓜 𝓖 𝓡 =
     reads-whole ! a-process p p-is refl (tt, refl) ▹
     gets ! written-is w ((tt, tt, refl), tt) (given 𝓤 (asked .sound .small, asked .seq)) (λ z ws. id⊢ 𝓤 _) (λ w-is.
     stores-field ! a-process a-register register-field p refl refl tt ▹
-    lends-element ! a-process refl (tt, tt) ▹
     gets ! idle-is Idle ((tt, tt, refl), tt) (asks-nothing 𝓤) (λ z ws. id⊢ 𝓤 _) (λ _.
+    lends-element ! a-process refl (tt, tt) ▹
     calls-on ! a-process (x .ptr .0) (x .ptr .1) q e (register-field .fine-with w p w-is p-is) begin-own-is tt (tt, tt, refl)
     (λ α δ. (refl, tt)) (λ α δ. given 𝓤 (asked .sound)) (λ α δ z ws. unit-said 𝓤) (λ _ e-is.
     unit-stored ! (tt, refl) ▹

@@ -84,8 +84,8 @@ read-turn-spec 𝓤 H 𝓜 𝓖 𝓡 =
     let t = asked .0 in
     gets-also ! access-is g ((tt, tt, refl), tt) (given 𝓤 (t .allows)) Sound (λ z ws. two-said 𝓤) (λ sound _.
     let few : g .n ≤ length (x .now) = subst (λ z. z ≤ length (x .now)) (sym n) (t .full) in
-    lends-again ! refl refl refl (tt, tt) ▹
     gets-also ! place-is (readsIn g) ((tt, tt, refl), tt) (given 𝓤 sound) (λ z. z < g .n) (λ z ws. two-said 𝓤) (λ below _.
+    lends-again ! refl refl refl (tt, tt) ▹
     calls-shared-is ! a-process (x .ptr .0) (x .ptr .1) (x .now) room register-is r (tt, tt, refl) (λ α δ. (refl, tt))
     (λ α δ. given 𝓤 (lt-of-lt-of-le below few)) (λ α δ z ws. id⊢ 𝓤 _) (λ _.
     lends-again ! refl refl refl (tt, tt) ▹

@@ -87,23 +87,23 @@ element-copy-out-second c = search needs
 lay-requires : tie.Need-lay-requires Inv-loop μ-loop
 lay-requires c κs = search needs
 
-mul-q : tie.Need-mul-q Inv-loop μ-loop
-mul-q c = search needs
+mul-no-first : tie.Need-mul-no-first Inv-loop μ-loop
+mul-no-first c = search needs
 
-element-set-from-q : tie.Need-element-set-from-q Inv-loop μ-loop
-element-set-from-q c = search needs
+element-set-from-no-first : tie.Need-element-set-from-no-first Inv-loop μ-loop
+element-set-from-no-first c = search needs
 
 lay-requires-2 : tie.Need-lay-requires-2 Inv-loop μ-loop
 lay-requires-2 c κs = search needs
 
-mul-t11 : tie.Need-mul-t11 Inv-loop μ-loop
-mul-t11 c = search needs
+mul-no-second : tie.Need-mul-no-second Inv-loop μ-loop
+mul-no-second c = search needs
 
-element-set-from-q-2 : tie.Need-element-set-from-q-2 Inv-loop μ-loop
-element-set-from-q-2 c = search needs
+element-set-from-no-second : tie.Need-element-set-from-no-second Inv-loop μ-loop
+element-set-from-no-second c = search needs
 
-mul-q-2 : tie.Need-mul-q-2 Inv-loop μ-loop
-mul-q-2 c = search needs
+mul-q : tie.Need-mul-q Inv-loop μ-loop
+mul-q c = search needs
 
 element-write-q : tie.Need-element-write-q Inv-loop μ-loop
 element-write-q c = search needs
@@ -154,12 +154,12 @@ begun-spec =
     mul-second
     element-copy-out-second
     lay-requires
-    mul-q
-    element-set-from-q
+    mul-no-first
+    element-set-from-no-first
     lay-requires-2
-    mul-t11
-    element-set-from-q-2
-    mul-q-2
+    mul-no-second
+    element-set-from-no-second
+    mul-q
     element-write-q
     add-i
     loop-less
