@@ -255,6 +255,7 @@ module _ (n : ℕ) (o : Order) (now : ℕ) (r : Register) (pg : List ℕ) (p : P
         refl,
         triple-written n w (f .instant) s (afterRead o n now (position n t) r p (Ready w (f .instant) (t + 1)) (over n (f .words) (p .view)))
             (f .words) own (take-over-all n (f .words) (p .view) full) full,
+        refl,
       )),
     ),
   )

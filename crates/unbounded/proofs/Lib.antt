@@ -10,3 +10,4 @@ pub mod Deeds
 pub mod Demand3
 pub mod MarkedDays
 pub mod Figure3
+pub mod Procedures

@@ -3,19 +3,24 @@
 use Prim.Native.Nat.{ℕ, zero, suc, _+_, _<_}
 use mathlib.Core.Path.{_≡_}
 use mathlib.Core.Bool.{Bool, true, false, cond}
-use mathlib.Core.List.{List}
-use mathlib.Core.Option.{none, some}
-use lib.ListN.{length, replicate}
+use mathlib.Core.List.{List, [], _∷_, foldl}
+use mathlib.Core.Option.{Option, none, some}
+use lib.ListN.{length, getD, replicate}
 use lib.Dec.{eqb}
 use Rattle.snapshot.specs.Lists.{over, each, everyFrom}
 use Rattle.snapshot.specs.Marks.{isMoved}
 use Rattle.snapshot.specs.Demand.{Result}
+use Rattle.snapshot.specs.Days as Days
+use Rattle.snapshot.specs.Days.{State, Item, openFor, updateCall, scanCall, turnOf, pageLent, processOf, refusal}
+use Rattle.snapshot.specs.declared.Refusal.{Refusal}
 use Rattle.snapshot.specs.declared.Answer.the-variants.{Read, Page, Written}
 use Rattle.unbounded.specs.declared.Register.{Register}
 use Rattle.unbounded.specs.declared.Process.{Process}
 use Rattle.unbounded.specs.Registers.{value, viewed, Order, collectedAt}
-use Rattle.unbounded.specs.Processes.{turnsOf}
+use Rattle.unbounded.specs.declared.Task.the-variants.{Idle}
+use Rattle.unbounded.specs.Processes.{noProcess, turnsOf, emptied, begin}
 use Rattle.unbounded.specs.Turns.{reads, turned}
+use Rattle.unbounded.specs.Days.{figure3}
 
 -- ---- what the figure works on
 
@@ -117,16 +122,31 @@ module _ (o : Order) (n : ℕ) where
     pub a : (j : ℕ) → j < n → v .a j ≡ triple n (collectedAt o (p .first) j)
     pub b : (j : ℕ) → j < n → v .b j ≡ triple n (collectedAt o (p .second) j)
 
+  -- p, after t turns, has the procedure's variables, and its next turn makes the procedure's next access
+  abbrev pub Stands : Procedure → (t : ℕ) → Process → Type 0
+  Stands (read v j next) t p = Remembers v p × (turnsOf (p .task) ≡ t) × (reads o n (p .task) ≡ some j)
+  Stands (write w) t p = (turnsOf (p .task) ≡ t) × (reads o n (p .task) ≡ none)
+  Stands (return lender words) t p = Unit {0}
+  Stands spent t p = Unit {0}
+
   -- a turn of p, its t-th, was lent a page list and gave x, and the procedure goes on as q: only where q returns is it answered,
-  -- with q's words and lender; N is what then holds of the record
+  -- with q's words and lender, and leaves p idle with nothing collected; N is what else then holds of the record
   abbrev pub After : (N : Process → Type 0) → (t : ℕ) → Process → List ℕ → Result Process → Procedure → Type 0
   After N t p page x (read v j next) =
       (x .answer ≡ Read) × (x .page ≡ page) × (x .state .register ≡ p .register) × N (x .state)
   After N t p page x (write r) =
       (x .answer ≡ Read) × (x .page ≡ page) × (x .state .register ≡ p .register) × N (x .state)
   After N t p page x (return lender words) =
-      ((at : ℕ) × (x .answer ≡ Page lender at t)) × (x .page ≡ over n words page) × (x .state .register ≡ p .register)
+      ((at : ℕ) × (x .answer ≡ Page lender at t)) × (x .page ≡ over n words page) × (x .state ≡ begin n Idle p)
   After N t p page x spent = Unit {0}
+
+  -- the writing turn of p, its t-th, was lent a page list and gave x: it wrote w, and left p idle with nothing collected
+  abbrev pub Wrote : Triple → (t : ℕ) → Process → List ℕ → Result Process → Type 0
+  Wrote w t p page x =
+      (x .answer ≡ Written t)
+      × (x .page ≡ page)
+      × (triple n (x .state .register) ≡ w)
+      × (x .state ≡ emptied n (x .state .register) Idle p)
 
   -- process p, after t turns, will do what the procedure says, whatever its reads return: the same register is read by the same
   -- access, its collects, marks and turns are the procedure's, and its writing turn writes what line 2 says
@@ -140,8 +160,49 @@ module _ (o : Order) (n : ℕ) where
   Does (write w) t p =
       (turnsOf (p .task) ≡ t)
       × (reads o n (p .task) ≡ none)
-      × ((now : ℕ) (r : Register) (page : List ℕ) →
-      let x = turned o n now r page p in
-      (x .answer ≡ Written (suc t)) × (x .page ≡ page) × (triple n (x .state .register) ≡ w))
+      × ((now : ℕ) (r : Register) (page : List ℕ) → Wrote w (suc t) p page (turned o n now r page p))
   Does (return lender words) t p = Unit {0}
   Does spent t p = Unit {0}
+
+-- ---- on a day
+
+-- the state after a list of items
+abbrev pub stateAfter : Order → State Process → List Item → State Process
+stateAfter o s xs = foldl (λ s x. Days.stepped (figure3 o) s x .state) s xs
+
+-- whether an item, by its refusal, is an accepted turn of process d
+abbrev pub isTurn : (d : ℕ) → Item → Option Refusal → Bool
+isTurn d (openFor k) r = false
+isTurn d (updateCall c w) r = false
+isTurn d (scanCall c) r = false
+isTurn d (turnOf c page) none = eqb c d
+isTurn d (turnOf c page) (some k) = false
+
+-- what an item gave process d: its record, the answer, and the page list
+abbrev pub ownOf : Order → (d : ℕ) → Result (State Process) → Result Process
+ownOf o d r = record { state = processOf (figure3 o) (r .state) d; answer = r .answer; page = r .page }
+
+module _ (o : Order) (n d : ℕ) where
+  -- item x on state s, where process d is at a procedure and has made t accesses: an accepted turn of d makes the next access, and a
+  -- read returns the register as it stands then; anything else leaves d's record as it is; Rest is what holds after x
+  abbrev pub Follows : (Rest : Procedure → ℕ → State Process → Type 0) → Procedure → (t : ℕ) → State Process → Item → Type 0
+  Follows Rest (read v j next) t s x =
+      let p = processOf (figure3 o) s d in
+      let r = Days.stepped (figure3 o) s x in
+      let q = next (triple n (getD (s .table) j noProcess .register)) in
+      cond (isTurn d x (refusal (figure3 o) s x))
+      (After o n (λ p. Rest q (suc t) (r .state)) (suc t) p (pageLent x) (ownOf o d r) q)
+      ((ownOf o d r .state ≡ p) × Rest (read v j next) t (r .state))
+  Follows Rest (write w) t s x =
+      let p = processOf (figure3 o) s d in
+      let r = Days.stepped (figure3 o) s x in
+      cond (isTurn d x (refusal (figure3 o) s x)) (Wrote o n w (suc t) p (pageLent x) (ownOf o d r))
+      ((ownOf o d r .state ≡ p) × Rest (write w) t (r .state))
+  Follows Rest (return lender words) t s x = Unit {0}
+  Follows Rest spent t s x = Unit {0}
+
+  -- from state s on, the accepted turns of process d are the procedure, with anything else in between
+  unfoldable pub Performs : Procedure → (t : ℕ) → State Process → List Item → Type 0
+  Performs q t s [] = Stands o n q t (processOf (figure3 o) s d)
+  Performs q t s (x ∷ xs) =
+      Stands o n q t (processOf (figure3 o) s d) × Follows (λ q t s. Performs q t s xs) q t s x
