@@ -34,12 +34,12 @@ use Rattle.unbounded.specs.declared.Register.{Register}
 use Rattle.unbounded.specs.declared.Process.{Process}
 use Rattle.unbounded.specs.declared.Task.{Task}
 use Rattle.unbounded.specs.declared.Task.the-variants.{Idle, Scan, Update, Ready}
-use Rattle.unbounded.specs.Registers.{noRegister, zeroRegister, Order, collectedAt, differs, laid, readInto, cleared}
+use Rattle.unbounded.specs.Registers.{noRegister, zeroRegister, trimmed, Order, collectedAt, differs, laid, readInto, cleared}
 use Rattle.unbounded.specs.Processes.{noProcess, zeroProcess, isIdle, taskOf, emptied, begin}
 use Rattle.unbounded.specs.Turns.{position, placeAt, reads, firstAfter, secondAfter, endAfter, decision, found, afterRead, foundBy}
 use Rattle.unbounded.specs.Turns.{scanTurn, updateTurn, written, turnedBy, turned}
 use Rattle.unbounded.specs.Days.{figure3, openedFor}
-use Rattle.unbounded.specs.Figure3.{Triple, Variables, Procedure, read, write, return, spent, scanProcedure, updateProcedure, triple}
+use Rattle.unbounded.specs.Figure3.{Variables, Procedure, read, write, return, spent, scanProcedure, updateProcedure}
 use Rattle.unbounded.specs.Figure3.{Stands, After, Wrote, Does, stateAfter, isTurn, ownOf, Follows, Performs}
 use Rattle.unbounded.proofs.Places.{page-of-long}
 use Rattle.unbounded.proofs.Reading.{position-low, place-below, Sized, sized-emptied, sized-read}
@@ -211,8 +211,8 @@ writes-busy o n now r page p t = go (p .task)
 after-map : (o : Order) (n : ℕ) (N N′ : Process → Type 0) (t : ℕ) (p : Process) (page : List ℕ) (x : Result Process) (q : Procedure) →
     (N (x .state) → N′ (x .state)) → After o n N t p page x q → After o n N′ t p page x q
 after-map o n N N′ t p page x (read v j next) f h = (h .0, h .1, h .2, f (h .3))
-after-map o n N N′ t p page x (write w) f h = (h .0, h .1, h .2, f (h .3))
-after-map o n N N′ t p page x (return from words) f h = h
+after-map o n N N′ t p page x (write v w) f h = (h .0, h .1, h .2, f (h .3))
+after-map o n N N′ t p page x (return from at words) f h = h
 after-map o n N N′ t p page x spent f h = h
 
 -- an item is an accepted turn of process d, or it is not
@@ -378,9 +378,9 @@ module _ (n : ℕ) (z : 0 < n) (eight : n ≤ 8) (o : Order) (P : Permutes n o) 
 
   module _ (d : ℕ) (m : Among n d) where
     -- an accepted turn at a read: R is what then holds of the rest
-    own-reads : (s : State Process) (L : Lent s) (v : Variables) (j : ℕ) (next : Triple → Procedure) (t : ℕ) (page : List ℕ) →
+    own-reads : (s : State Process) (L : Lent s) (v : Variables) (j : ℕ) (next : ℕ → Register → Procedure) (t : ℕ) (page : List ℕ) →
         Does o n (read v j next) t (processOf (figure3 o) s d) → refusal (figure3 o) s (turnOf d page) ≡ none →
-        let q = next (triple n (getD (s .table) j noProcess .register)) in
+        let q = next (s .day .event + 1) (trimmed n (getD (s .table) j noProcess .register)) in
         let r = stepped (figure3 o) s (turnOf d page) in
         (R : Type 0) → (Does o n q (suc t) (processOf (figure3 o) (r .state) d) → R) →
         After o n (λ p. R) (suc t) (processOf (figure3 o) s d) page (ownOf o d r) q
@@ -388,7 +388,7 @@ module _ (n : ℕ) (z : 0 < n) (eight : n ≤ 8) (o : Order) (P : Permutes n o) 
     own-reads s L v j next t page D a R rest =
         let p = processOf (figure3 o) s d in
         let r = getD (s .table) j noProcess .register in
-        let q = next (triple n r) in
+        let q = next (s .day .event + 1) (trimmed n r) in
         let x = ownOf o d (stepped (figure3 o) s (turnOf d page)) in
         let same : x ≡ turned o n (s .day .event + 1) r page p =
         own-turn s L d page m a
@@ -400,8 +400,8 @@ module _ (n : ℕ) (z : 0 < n) (eight : n ≤ 8) (o : Order) (P : Permutes n o) 
     does-stands : (q : Procedure) (t : ℕ) (p : Process) → Does o n q t p → Stands o n q t p
     unfolding Does
     does-stands (read v j next) t p D = (D .0, D .1, D .2)
-    does-stands (write w) t p D = (D .0, D .1)
-    does-stands (return from words) t p D = tt
+    does-stands (write v w) t p D = (D .0, D .1, D .2)
+    does-stands (return from at words) t p D = tt
     does-stands spent t p D = tt
 
     module _ (Rest : Procedure → ℕ → State Process → Type 0)
@@ -425,23 +425,23 @@ module _ (n : ℕ) (z : 0 < n) (eight : n ≤ 8) (o : Order) (P : Permutes n o) 
       unfolding Does
       follows (read v j next) D =
           let p = processOf (figure3 o) s d in
-          let q = next (triple n (getD (s .table) j noProcess .register)) in
+          let q = next (s .day .event + 1) (trimmed n (getD (s .table) j noProcess .register)) in
           by-turn d x (refusal (figure3 o) s x)
           (λ page e a.
           subst (λ x. After o n (λ p. Rest q (suc t) (next-state x)) (suc t) p (pageLent x) (ownOf o d (stepped (figure3 o) s x)) q) (sym e)
           (own-reads s L v j next t page D (subst (λ x. refusal (figure3 o) s x ≡ none) e a) (Rest q (suc t) (next-state (turnOf d page)))
           (rest q (suc t) (next-state (turnOf d page)) (next-lent (turnOf d page)))))
           (others-follow (read v j next) D (reads-busy o n (p .task) j (D .2)))
-      follows (write w) D =
+      follows (write v w) D =
           let p = processOf (figure3 o) s d in
-          let wrote = D .2 (s .day .event + 1) (readBy s L d) in
+          let wrote = D .3 (s .day .event + 1) (readBy s L d) in
           by-turn d x (refusal (figure3 o) s x)
           (λ page e a.
           subst (λ x. Wrote o n w (suc t) p (pageLent x) (ownOf o d (stepped (figure3 o) s x))) (sym e)
           (subst (λ x. Wrote o n w (suc t) p page x) (sym (own-turn s L d page m (subst (λ x. refusal (figure3 o) s x ≡ none) e a)))
           (wrote page)))
-          (others-follow (write w) D (writes-busy o n (s .day .event + 1) (readBy s L d) [] p (suc t) (wrote [] .0)))
-      follows (return from words) D = tt
+          (others-follow (write v w) D (writes-busy o n (s .day .event + 1) (readBy s L d) [] p (suc t) (wrote [] .0)))
+      follows (return from at words) D = tt
       follows spent D = tt
 
     performs : (xs : List Item) (q : Procedure) (t : ℕ) (s : State Process) → Lent s → Does o n q t (processOf (figure3 o) s d) →
@@ -468,13 +468,13 @@ module _ (n : ℕ) (z : 0 < n) (eight : n ≤ 8) (o : Order) (P : Permutes n o) 
     own-seq = processOf (figure3 o) s d .register .seq
 
     scan-performs : (items : List Item) → refusal (figure3 o) s (scanCall d) ≡ none →
-        Performs o n d (scanProcedure o n return k) 0 (stepped (figure3 o) s (scanCall d) .state) items
+        Performs o n d (scanProcedure o n k) 0 (stepped (figure3 o) s (scanCall d) .state) items
     unfolding refusal accept
     scan-performs items a =
         let m = call-idle s L d a .0 in
-        performs d m items (scanProcedure o n return k) 0 (stepped (figure3 o) s (scanCall d) .state)
+        performs d m items (scanProcedure o n k) 0 (stepped (figure3 o) s (scanCall d) .state)
         (lent-moved s L (moves s L (scanCall d)))
-        (subst (λ p. Does o n (scanProcedure o n return k) 0 p) (sym (after-call (scanCall d) scan a m refl))
+        (subst (λ p. Does o n (scanProcedure o n k) 0 p) (sym (after-call (scanCall d) scan a m refl))
         (turns-are-figure-3 n o P z eight (processOf (figure3 o) s d) (L .whole (d - 1) (omega arith) .sized) k .0))
 
     update-performs : (items : List Item) (w : ℕ) → refusal (figure3 o) s (updateCall d w) ≡ none →
@@ -516,7 +516,7 @@ module _ (n : ℕ) (z : 0 < n) (eight : n ≤ 8) (o : Order) (P : Permutes n o) 
 pub days-are-figure-3 : (n : ℕ) (o : Order) → Permutes n o → 0 < n → n ≤ 8 → (before items : List Item) (d k : ℕ) →
     let s = stateAfter o (openedFor n) before in
     (refusal (figure3 o) s (scanCall d) ≡ none →
-    Performs o n d (scanProcedure o n return k) 0 (stepped (figure3 o) s (scanCall d) .state) items)
+    Performs o n d (scanProcedure o n k) 0 (stepped (figure3 o) s (scanCall d) .state) items)
     × ((w : ℕ) → refusal (figure3 o) s (updateCall d w) ≡ none →
     Performs o n d (updateProcedure o n k w (processOf (figure3 o) s d .register .seq)) 0
     (stepped (figure3 o) s (updateCall d w) .state) items)
