@@ -31,12 +31,28 @@ use Rattle.unbounded.specs.declared.Task.the-variants.{Scan, Update, Rea
 use Rattle.unbounded.specs.Registers.{noRegister, zeroRegister, value, viewed, trimmed, Order, collectedAt, pageOf, differs, laid, readInto, cleared}
 use Rattle.unbounded.specs.Processes.{turnsOf, taskOf, begin}
 use Rattle.unbounded.specs.Turns.{position, placeAt, reads, firstAfter, secondAfter, endAfter, marksAfter, found, afterRead, foundBy, scanTurn, updateTurn, written, turnedBy, turned}
-use Rattle.unbounded.specs.Figure3.{Array, assigned, Variables, Procedure, write, return, collect, search, whileTrue, scanFor, scanProcedure, updateProcedure, initial}
-use Rattle.unbounded.specs.Figure3.{mark, Remembers, After, Does}
+use Rattle.unbounded.specs.Figure3.{Array, assigned, Variables, Procedure, read, write, return, spent, collect, search, whileTrue, scanFor, scanProcedure, updateProcedure, initial}
+use Rattle.unbounded.specs.Figure3.{mark, Remembers, Standing, After, Wrote}
 use Rattle.unbounded.proofs.Places.{page-of-long, read-into-same, read-into-other, trimmed-laid}
 use Rattle.unbounded.proofs.Moved.{differs-false, differs-true}
 use Rattle.unbounded.proofs.Reading.{place-first, place-second, first-reads, first-waits, second-reads, second-waits, end-waits, end-reads, decision-waits, decision-falls, Sized, sized-begin, sized-read}
 use Rattle.unbounded.proofs.Scans.{Permutes}
+
+-- ---- a process that does what a procedure says
+
+module _ (o : Order) (n : ℕ) where
+  -- process p, after t turns, will do what the procedure says, whatever its reads return: the same register is read by the same
+  -- access, its collects, marks and turns are the procedure's, and its writing turn writes what line 2 says
+  unfoldable pub Does : Procedure → ℕ → Process → Type 0
+  Does (read v j next) t p =
+      Standing o n (read v j next) t p
+      × ((now : ℕ) (r : Register) (page : List ℕ) → length (r .view) ≡ 8 →
+      After o n (Does (next now (trimmed n r)) (suc t)) (suc t) p page (turned o n now r page p) (next now (trimmed n r)))
+  Does (write v w) t p =
+      Standing o n (write v w) t p
+      × ((now : ℕ) (r : Register) (page : List ℕ) → Wrote o n w (suc t) p page (turned o n now r page p))
+  Does (return from at words) t p = Unit {0}
+  Does spent t p = Unit {0}
 
 -- ---- arrays
 
@@ -273,9 +289,7 @@ module _ (n : ℕ) (o : Order) (now : ℕ) (r : Register) (pg : List ℕ) (p : P
     refl,
     refl,
     (
-      has (Ready w (f .instant) (t + 1)) (over n (f .words) (p .view)),
-      add-one t,
-      refl,
+      (has (Ready w (f .instant) (t + 1)) (over n (f .words) (p .view)), add-one t, refl),
       (λ now′ r′ pg′. (
         ap Written (ap (λ k. k + 1) (add-one t) ∙ add-one (suc t)),
         refl,
@@ -490,47 +504,72 @@ module _ (n : ℕ) (o : Order) (P : Permutes n o) (z : 0 < n) (eight : n ≤ 8) 
             seq = A .seq;
           }
 
-      -- after a last read: the marks, line 4's test, and what follows it
+      -- lines 5, 9 and 10, with the marks that the search left
+      goes : ℕ → Array ℕ → Procedure
+      goes k mv = whileTrue o n (finishOf K s) k mv x y′ e
+
+      finish : Array ℕ → ℕ → ℕ → List ℕ → Procedure
+      finish mv = finishOf K s (vars mv x y′ e)
+
+      -- line 4
+      tests : (k : ℕ) (b : Bool) → everyFrom (λ j. eqb (x j .seq) (y′ j .seq)) n 0 ≡ b →
+          lines k ≡ cond b (finish moved 0 e (each n (λ j. value (y′ j)))) (search n 0 x y′ moved (goes k) finish)
+      unfolding lines goes finish
+      tests k b h = ap (λ b. cond b (finish moved 0 e (each n (λ j. value (y′ j)))) (search n 0 x y′ moved (goes k) finish)) h
+
+      tests-false : (k j : ℕ) → j < n → differs o a′ c′ j ≡ true → lines k ≡ search n 0 x y′ moved (goes k) finish
+      unfolding a′ c′ y′
+      tests-false k j l d =
+          tests k false
+          (one-differs n o a′ c′ x y′ (stands-first q) (stands-second q (omega arith)) finish (goes k) n 0 j (omega arith) (omega arith) l d)
+
+      ends-clean : (k : ℕ) → verdict n (differs o a′ c′) (lends (differs o a′ c′) (p .moved)) ≡ clean →
+          ((j : ℕ) → j < n → differs o a′ c′ j ≡ false) → Ending k
+      unfolding a′ c′ y′ end′ finish
+      ends-clean k is h =
+          finishes k (record { words = pageOf o n c′; instant = end′; lender = 0 }) moved (falls clean is) (page-of-long o n c′)
+          (remembers-after moved clean is (A .remembers .moved))
+          (tests k true (all-same n o a′ c′ x y′ (stands-first q) (stands-second q (omega arith)) finish (goes k) n 0 (omega arith) h)
+          ∙ ap₂ (finish moved 0) (ended-waits (n + q) (λ w. omega arith)) (page-each n o P y′ c′ (stands-second q (omega arith))))
+
+      -- the search ended at j, with the marks m′
+      ends-lent : (k j : ℕ) → j < n → verdict n (differs o a′ c′) (lends (differs o a′ c′) (p .moved)) ≡ lent j →
+          lines k ≡ search n 0 x y′ moved (goes k) finish →
+          (m′ : Array ℕ)
+          × (search n 0 x y′ moved (goes k) finish ≡ finish m′ (suc j) (y′ j .at) (y′ j .view))
+          × ((i : ℕ) → i < n → m′ i ≡ mark (isMoved (markFrom (differs o a′ c′) j 0 (p .moved)) i)) → Ending k
+      unfolding c′ y′ finish
+      ends-lent k j l is searches (m′, left, marks) =
+          finishes k (record { words = viewed n (collectedAt o c′ j); instant = collectedAt o c′ j .at; lender = j + 1 }) m′ (falls (lent j) is)
+          (ap (λ u. length (u .view)) (sym (stands-second q (omega arith) j l)) ∙ wide-second q j l)
+          (remembers-after m′ (lent j) is marks)
+          (searches ∙ left ∙ ap₂ (λ i u. finish m′ i (u .at) (u .view)) (sym (add-one j)) (stands-second q (omega arith) j l))
+
       abbrev Again : ℕ → Type 0
       Again k = (moved : Array ℕ) (p : Process) → At p (suc t) (vars moved x y′ e) → Does o n (whileTrue o n (finishOf K s) k moved x y′ e) (suc t) p
 
-      ends : (k : ℕ) → Again k →
-          (v : Verdict) → verdict n (differs o a′ c′) (lends (differs o a′ c′) (p .moved)) ≡ v → Ends n (differs o a′ c′) (lends (differs o a′ c′) (p .moved)) v → Ending k
-      unfolding lines y′ a′ c′ end′
-      ends k rest _ is (nobody h) =
-          let go : Array ℕ → Procedure = λ mv. whileTrue o n (finishOf K s) k mv x y′ e in
-          let finish : Array ℕ → ℕ → ℕ → List ℕ → Procedure = λ mv. finishOf K s (vars mv x y′ e) in
-          finishes k (record { words = pageOf o n c′; instant = end′; lender = 0 }) moved (falls clean is) (page-of-long o n c′)
-          (remembers-after moved clean is (A .remembers .moved))
-          (ap (λ b. cond b (finish moved 0 e (each n (λ j. value (y′ j)))) (search n 0 x y′ moved go finish))
-          (all-same n o a′ c′ x y′ (stands-first q) (stands-second q (omega arith)) finish go n 0 (omega arith) h)
-          ∙ ap₂ (finish moved 0) (ended-waits (n + q) (λ w. omega arith)) (page-each n o P y′ c′ (stands-second q (omega arith))))
+      ends-again : (k : ℕ) → Again k → verdict n (differs o a′ c′) (lends (differs o a′ c′) (p .moved)) ≡ again →
+          lines k ≡ search n 0 x y′ moved (goes k) finish →
+          (m′ : Array ℕ)
+          × (search n 0 x y′ moved (goes k) finish ≡ goes k m′)
+          × ((i : ℕ) → i < n → m′ i ≡ mark (isMoved (markFrom (differs o a′ c′) n 0 (p .moved)) i)) → Ending k
+      unfolding goes
+      ends-again k rest is searches (m′, left, marks) =
+          continues k m′ (falls again is) (searches ∙ left)
+          (rest m′ (afterRead o n now (n + q) r p (taskOf K (t + 1)) (p .view)) (at-again m′ (remembers-after m′ again is marks)))
+
+      ends : (k : ℕ) → Again k → (v : Verdict) → verdict n (differs o a′ c′) (lends (differs o a′ c′) (p .moved)) ≡ v →
+          Ends n (differs o a′ c′) (lends (differs o a′ c′) (p .moved)) v → Ending k
+      unfolding a′ c′ y′
+      ends k rest _ is (nobody h) = ends-clean k is h
       ends k rest _ is (lender j l h first) =
-          let go : Array ℕ → Procedure = λ mv. whileTrue o n (finishOf K s) k mv x y′ e in
-          let finish : Array ℕ → ℕ → ℕ → List ℕ → Procedure = λ mv. finishOf K s (vars mv x y′ e) in
-          let mk =
-          search-lends n o a′ c′ x y′ (stands-first q) (stands-second q (omega arith)) finish go (p .moved) moved
-          (omega (arith, A .sized .marks)) (A .remembers .moved) j l h first in
-          finishes k (record { words = viewed n (collectedAt o c′ j); instant = collectedAt o c′ j .at; lender = j + 1 }) (mk .0)
-          (falls (lent j) is)
-          (ap (λ u. length (u .view)) (sym (stands-second q (omega arith) j l)) ∙ wide-second q j l)
-          (remembers-after (mk .0) (lent j) is (mk .2))
-          (ap (λ b. cond b (finish moved 0 e (each n (λ j. value (y′ j)))) (search n 0 x y′ moved go finish))
-          (one-differs n o a′ c′ x y′ (stands-first q) (stands-second q (omega arith)) finish go n 0 j (omega arith) (omega arith) l
-          (lends-moved (differs o a′ c′) (p .moved) j h))
-          ∙ mk .1
-          ∙ ap₂ (λ i u. finish (mk .0) i (u .at) (u .view)) (sym (add-one j)) (stands-second q (omega arith) j l))
+          ends-lent k j l is (tests-false k j l (lends-moved (differs o a′ c′) (p .moved) j h))
+          (search-lends n o a′ c′ x y′ (stands-first q) (stands-second q (omega arith)) finish (goes k) (p .moved) moved
+          (omega (arith, A .sized .marks)) (A .remembers .moved) j l h first)
       ends k rest _ is (goes-on j l d h) =
-          let go : Array ℕ → Procedure = λ mv. whileTrue o n (finishOf K s) k mv x y′ e in
-          let finish : Array ℕ → ℕ → ℕ → List ℕ → Procedure = λ mv. finishOf K s (vars mv x y′ e) in
-          let mk =
-          search-marks n o a′ c′ x y′ (stands-first q) (stands-second q (omega arith)) finish go (p .moved) moved
-          (omega (arith, A .sized .marks)) (A .remembers .moved) h in
-          continues k (mk .0) (falls again is)
-          (ap (λ b. cond b (finish moved 0 e (each n (λ j. value (y′ j)))) (search n 0 x y′ moved go finish))
-          (one-differs n o a′ c′ x y′ (stands-first q) (stands-second q (omega arith)) finish go n 0 j (omega arith) (omega arith) l d)
-          ∙ mk .1)
-          (rest (mk .0) (afterRead o n now (n + q) r p (taskOf K (t + 1)) (p .view)) (at-again (mk .0) (remembers-after (mk .0) again is (mk .2))))
+          ends-again k rest is (tests-false k j l d)
+          (search-marks n o a′ c′ x y′ (stands-first q) (stands-second q (omega arith)) finish (goes k) (p .moved) moved
+          (omega (arith, A .sized .marks)) (A .remembers .moved) h)
 
       ending : (k : ℕ) → Again k → Ending k
       ending k rest =
@@ -550,16 +589,20 @@ module _ (n : ℕ) (o : Order) (P : Permutes n o) (z : 0 < n) (eight : n ≤ 8) 
       Does o n (collect o (suc k) q (λ b. vars moved x b e) last y (closing f moved x e)) t p
   unfolding Does collect Ending lines y′
   second-does f m zero q l rest t moved x y e last p c A = (
-    A .remembers,
-    ap turnsOf (A .task) ∙ turns-of K t,
-    ap (reads o n) (A .task) ∙ reads-of o n K t (n + q) q (position-of m (n + q) t c (omega arith)) (place-second n q),
+    (
+      A .remembers,
+      ap turnsOf (A .task) ∙ turns-of K t,
+      ap (reads o n) (A .task) ∙ reads-of o n K t (n + q) q (position-of m (n + q) t c (omega arith)) (place-second n q),
+    ),
     (λ now r pg full. ending now r full p t moved x y e A pg q m (omega arith) c f
         (λ mv p′ A′. rest (suc t) mv x (assigned y (o .register q) (trimmed n r)) e p′ (omega arith) A′)),
   )
   second-does f m (suc k) q l rest t moved x y e last p c A = (
-    A .remembers,
-    ap turnsOf (A .task) ∙ turns-of K t,
-    ap (reads o n) (A .task) ∙ reads-of o n K t (n + q) q (position-of m (n + q) t c (omega arith)) (place-second n q),
+    (
+      A .remembers,
+      ap turnsOf (A .task) ∙ turns-of K t,
+      ap (reads o n) (A .task) ∙ reads-of o n K t (n + q) q (position-of m (n + q) t c (omega arith)) (place-second n q),
+    ),
     (λ now r pg full. onwards now r full p t moved x y e A pg (n + q) (position-of m (n + q) t c (omega arith)) (λ w. omega arith)
         k (suc q) (λ b. vars moved x b e) now (assigned y (o .register q) (trimmed n r)) (closing f moved x e)
         (second-does f m k (suc q) (omega arith) rest (suc t) moved x (assigned y (o .register q) (trimmed n r)) e now
@@ -575,9 +618,11 @@ module _ (n : ℕ) (o : Order) (P : Permutes n o) (z : 0 < n) (eight : n ≤ 8) 
       Does o n (collect o (suc k) q (λ a. vars moved a y e) last x (after-first f moved y)) t p
   unfolding Does collect
   first-does f m zero q l rest t moved x y e last p c A = (
-    A .remembers,
-    ap turnsOf (A .task) ∙ turns-of K t,
-    ap (reads o n) (A .task) ∙ reads-of o n K t q q (position-of m q t c (omega arith)) (place-first n q (omega arith)),
+    (
+      A .remembers,
+      ap turnsOf (A .task) ∙ turns-of K t,
+      ap (reads o n) (A .task) ∙ reads-of o n K t q q (position-of m q t c (omega arith)) (place-first n q (omega arith)),
+    ),
     (λ now r pg full.
         let x′ : Array Register = assigned x (o .register q) (trimmed n r) in
         let hold : Array Register → Variables = λ b. vars moved x′ b now in
@@ -592,9 +637,11 @@ module _ (n : ℕ) (o : Order) (P : Permutes n o) (z : 0 < n) (eight : n ≤ 8) 
       suc-is : suc zero + q ≡ n → suc q ≡ n
       suc-is h = omega arith
   first-does f m (suc k) q l rest t moved x y e last p c A = (
-    A .remembers,
-    ap turnsOf (A .task) ∙ turns-of K t,
-    ap (reads o n) (A .task) ∙ reads-of o n K t q q (position-of m q t c (omega arith)) (place-first n q (omega arith)),
+    (
+      A .remembers,
+      ap turnsOf (A .task) ∙ turns-of K t,
+      ap (reads o n) (A .task) ∙ reads-of o n K t q q (position-of m q t c (omega arith)) (place-first n q (omega arith)),
+    ),
     (λ now r pg full. onwards now r full p t moved x y e A pg q (position-of m q t c (omega arith)) (λ w. omega arith)
         k (suc q) (λ a. vars moved a y e) now (assigned x (o .register q) (trimmed n r)) (after-first f moved y)
         (first-does f m k (suc q) (omega arith) rest (suc t) moved (assigned x (o .register q) (trimmed n r)) y e now

@@ -40,11 +40,11 @@ use Rattle.unbounded.specs.Turns.{position, placeAt, reads, firstAfter, 
 use Rattle.unbounded.specs.Turns.{scanTurn, updateTurn, written, turnedBy, turned}
 use Rattle.unbounded.specs.Days.{figure3, openedFor}
 use Rattle.unbounded.specs.Figure3.{Variables, Procedure, read, write, return, spent, scanProcedure, updateProcedure}
-use Rattle.unbounded.specs.Figure3.{Stands, After, Wrote, Does, stateAfter, isTurn, ownOf, Follows, Performs}
+use Rattle.unbounded.specs.Figure3.{Standing, After, Wrote, stateAfter, isTurn, ownOf, Follows, Performs}
 use Rattle.unbounded.proofs.Places.{page-of-long}
 use Rattle.unbounded.proofs.Reading.{position-low, place-below, Sized, sized-emptied, sized-read}
 use Rattle.unbounded.proofs.Scans.{Permutes}
-use Rattle.unbounded.proofs.Figure3.{turns-are-figure-3}
+use Rattle.unbounded.proofs.Figure3.{Does, turns-are-figure-3}
 
 -- ---- arrays keep their sizes
 
@@ -392,15 +392,15 @@ module _ (n : ℕ) (z : 0 < n) (eight : n ≤ 8) (o : Order) (P : Permutes n o) 
         let x = ownOf o d (stepped (figure3 o) s (turnOf d page)) in
         let same : x ≡ turned o n (s .day .event + 1) r page p =
         own-turn s L d page m a
-        ∙ ap (λ f. turned o n (s .day .event + 1) (readFrom (figure3 o) (s .table) f .register) page p) (D .2) in
+        ∙ ap (λ f. turned o n (s .day .event + 1) (readFrom (figure3 o) (s .table) f .register) page p) (D .0 .2) in
         after-map o n (Does o n q (suc t)) (λ p. R) (suc t) p page x q rest
         (subst (λ x. After o n (Does o n q (suc t)) (suc t) p page x q) (sym same)
-        (D .3 (s .day .event + 1) r page (L .whole j (reads-within o n P z (p .task) j (D .2)) .register)))
+        (D .1 (s .day .event + 1) r page (L .whole j (reads-within o n P z (p .task) j (D .0 .2)) .register)))
 
-    does-stands : (q : Procedure) (t : ℕ) (p : Process) → Does o n q t p → Stands o n q t p
+    does-stands : (q : Procedure) (t : ℕ) (p : Process) → Does o n q t p → Standing o n q t p
     unfolding Does
-    does-stands (read v j next) t p D = (D .0, D .1, D .2)
-    does-stands (write v w) t p D = (D .0, D .1, D .2)
+    does-stands (read v j next) t p D = D .0
+    does-stands (write v w) t p D = D .0
     does-stands (return from at words) t p D = tt
     does-stands spent t p D = tt
 
@@ -431,10 +431,10 @@ module _ (n : ℕ) (z : 0 < n) (eight : n ≤ 8) (o : Order) (P : Permutes n o) 
           subst (λ x. After o n (λ p. Rest q (suc t) (next-state x)) (suc t) p (pageLent x) (ownOf o d (stepped (figure3 o) s x)) q) (sym e)
           (own-reads s L v j next t page D (subst (λ x. refusal (figure3 o) s x ≡ none) e a) (Rest q (suc t) (next-state (turnOf d page)))
           (rest q (suc t) (next-state (turnOf d page)) (next-lent (turnOf d page)))))
-          (others-follow (read v j next) D (reads-busy o n (p .task) j (D .2)))
+          (others-follow (read v j next) D (reads-busy o n (p .task) j (D .0 .2)))
       follows (write v w) D =
           let p = processOf (figure3 o) s d in
-          let wrote = D .3 (s .day .event + 1) (readBy s L d) in
+          let wrote = D .1 (s .day .event + 1) (readBy s L d) in
           by-turn d x (refusal (figure3 o) s x)
           (λ page e a.
           subst (λ x. Wrote o n w (suc t) p (pageLent x) (ownOf o d (stepped (figure3 o) s x))) (sym e)

@@ -5,7 +5,7 @@ use mathlib.Core.Path.{_≡_}
 use mathlib.Core.Bool.{Bool, true, false, cond}
 use mathlib.Core.List.{List, [], _∷_, foldl}
 use mathlib.Core.Option.{Option, none, some}
-use lib.ListN.{length, getD, replicate}
+use lib.ListN.{getD, replicate}
 use lib.Dec.{eqb}
 use Rattle.snapshot.specs.Lists.{over, each, everyFrom}
 use Rattle.snapshot.specs.Marks.{isMoved}
@@ -19,7 +19,7 @@ use Rattle.unbounded.specs.declared.Process.{Process}
 use Rattle.unbounded.specs.Registers.{value, trimmed, Order, collectedAt}
 use Rattle.unbounded.specs.declared.Task.the-variants.{Idle}
 use Rattle.unbounded.specs.Processes.{noProcess, turnsOf, emptied, begin}
-use Rattle.unbounded.specs.Turns.{reads, turned}
+use Rattle.unbounded.specs.Turns.{reads}
 use Rattle.unbounded.specs.Days.{figure3}
 
 -- ---- what the figure works on
@@ -110,7 +110,7 @@ abbrev pub updateProcedure : Order → (n k : ℕ) → (word s : ℕ) → Proced
 updateProcedure o n k word s =
     scanFor o n (λ v lender at words. write v (record { word = word; seq = s + 1; view = words; at = at })) k
 
--- ---- the turns of a process are a procedure
+-- ---- the turns of a process are a procedure, one access at a time
 
 abbrev pub mark : Bool → ℕ
 mark true = 1
@@ -125,11 +125,11 @@ module _ (o : Order) (n : ℕ) where
     pub ended : v .ended ≡ p .«first_end»
 
   -- p, after t turns, has the procedure's variables, and its next turn makes the procedure's next access
-  abbrev pub Stands : Procedure → (t : ℕ) → Process → Type 0
-  Stands (read v j next) t p = Remembers v p × (turnsOf (p .task) ≡ t) × (reads o n (p .task) ≡ some j)
-  Stands (write v w) t p = Remembers v p × (turnsOf (p .task) ≡ t) × (reads o n (p .task) ≡ none)
-  Stands (return lender at words) t p = Unit {0}
-  Stands spent t p = Unit {0}
+  abbrev pub Standing : Procedure → (t : ℕ) → Process → Type 0
+  Standing (read v j next) t p = Remembers v p × (turnsOf (p .task) ≡ t) × (reads o n (p .task) ≡ some j)
+  Standing (write v w) t p = Remembers v p × (turnsOf (p .task) ≡ t) × (reads o n (p .task) ≡ none)
+  Standing (return lender at words) t p = Unit {0}
+  Standing spent t p = Unit {0}
 
   -- a turn of p, its t-th, was lent a page list and gave x, and the procedure goes on as q: only where q returns is it answered,
   -- with what q returns, and leaves p idle with nothing collected; N is what else then holds of the record
@@ -149,23 +149,6 @@ module _ (o : Order) (n : ℕ) where
       × (x .page ≡ page)
       × (trimmed n (x .state .register) ≡ w)
       × (x .state ≡ emptied n (x .state .register) Idle p)
-
-  -- process p, after t turns, will do what the procedure says, whatever its reads return: the same register is read by the same
-  -- access, its collects, marks and turns are the procedure's, and its writing turn writes what line 2 says
-  unfoldable pub Does : Procedure → ℕ → Process → Type 0
-  Does (read v j next) t p =
-      Remembers v p
-      × (turnsOf (p .task) ≡ t)
-      × (reads o n (p .task) ≡ some j)
-      × ((now : ℕ) (r : Register) (page : List ℕ) → length (r .view) ≡ 8 →
-      After (Does (next now (trimmed n r)) (suc t)) (suc t) p page (turned o n now r page p) (next now (trimmed n r)))
-  Does (write v w) t p =
-      Remembers v p
-      × (turnsOf (p .task) ≡ t)
-      × (reads o n (p .task) ≡ none)
-      × ((now : ℕ) (r : Register) (page : List ℕ) → Wrote w (suc t) p page (turned o n now r page p))
-  Does (return lender at words) t p = Unit {0}
-  Does spent t p = Unit {0}
 
 -- ---- on a day
 
@@ -206,6 +189,6 @@ module _ (o : Order) (n d : ℕ) where
 
   -- from state s on, the accepted turns of process d are the procedure, with anything else in between
   unfoldable pub Performs : Procedure → (t : ℕ) → State Process → List Item → Type 0
-  Performs q t s [] = Stands o n q t (processOf (figure3 o) s d)
+  Performs q t s [] = Standing o n q t (processOf (figure3 o) s d)
   Performs q t s (x ∷ xs) =
-      Stands o n q t (processOf (figure3 o) s d) × Follows (λ q t s. Performs q t s xs) q t s x
+      Standing o n q t (processOf (figure3 o) s d) × Follows (λ q t s. Performs q t s xs) q t s x
