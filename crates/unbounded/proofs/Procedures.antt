@@ -1,9 +1,9 @@
--- Figure 3 on a day: from an accepted call on, the accepted turns of its process are the figure's procedure, over the registers as
--- they stand at each turn, with anything else in between.
+-- Figure 3 on a day: from an accepted call on, the accepted turns of its process are the figure's procedure, over the registers
+-- as they stand at each turn, with anything else in between.
 use Prim.Native.Nat.{ℕ, suc, _+_, _*_, _-_, _≤_, _<_}
 use native.Mathlib.Omega.{arith}
 use native.Mathlib.Decide.{ℕ-discrete}
-use mathlib.Core.Path.{_≡_, refl, sym, ap, ap₂, _∙_, subst}
+use mathlib.Core.Path.{_≡_, refl, sym, ap, _∙_, subst}
 use mathlib.Core.Logic.{by-cases, _≢_}
 use mathlib.Core.Bool.{Bool, true, false, cond, not, true≢false}
 use mathlib.Core.List.{List, [], _∷_, map}
@@ -17,15 +17,14 @@ use Rattle.snapshot.specs.Tally.{Job, scan, update}
 use Rattle.snapshot.specs.Marks.{lends, Found}
 use Rattle.snapshot.specs.Demand.{Result, Among, admit, step}
 use Rattle.snapshot.specs.Days as Days
-use Rattle.snapshot.specs.Days.{State, Item, openFor, updateCall, scanCall, turnOf, pageLent, processOf, refusal, accept}
+use Rattle.snapshot.specs.Days.{Machine, State, Item, openFor, updateCall, scanCall, turnOf, pageLent, processOf, refusal, accept}
 use Rattle.snapshot.specs.Days.{advance, calledBy, turnBy, readFrom, stepped, causes, callCauses, turnCauses, openingCauses}
 use Rattle.snapshot.specs.Refusals.{Cause, firstCause}
 use Rattle.snapshot.specs.declared.Refusal.{Refusal}
 use Rattle.snapshot.specs.declared.Refusal.the-variants as Refusals
-use Rattle.snapshot.specs.declared.Answer.{Answer}
-use Rattle.snapshot.specs.declared.Answer.the-variants.{Read, Page, Written}
+use Rattle.snapshot.specs.declared.Answer.the-variants.{Written}
 use Rattle.snapshot.specs.Verdict.{Verdict, verdict}
-use Rattle.snapshot.proofs.Booleans.{bool-cases, not-false}
+use Rattle.snapshot.proofs.Booleans.{not-false}
 use Rattle.snapshot.proofs.Causes.{accepted-passes}
 use Rattle.snapshot.proofs.Lists.{length-over, getD-over, getD-map-below}
 use Rattle.snapshot.proofs.DoubleCollect.{Ends, nobody, lender, goes-on, verdict-ends}
@@ -34,16 +33,17 @@ use Rattle.unbounded.specs.declared.Register.{Register}
 use Rattle.unbounded.specs.declared.Process.{Process}
 use Rattle.unbounded.specs.declared.Task.{Task}
 use Rattle.unbounded.specs.declared.Task.the-variants.{Idle, Scan, Update, Ready}
-use Rattle.unbounded.specs.Registers.{noRegister, zeroRegister, trimmed, Order, collectedAt, differs, laid, readInto, cleared}
+use Rattle.unbounded.specs.Registers.{noRegister, zeroRegister, trimmed, Order, ascending, collectedAt, differs, laid, readInto, cleared}
 use Rattle.unbounded.specs.Processes.{noProcess, zeroProcess, isIdle, taskOf, emptied, begin}
 use Rattle.unbounded.specs.Turns.{position, placeAt, reads, firstAfter, secondAfter, endAfter, decision, found, afterRead, foundBy}
 use Rattle.unbounded.specs.Turns.{scanTurn, updateTurn, written, turnedBy, turned}
 use Rattle.unbounded.specs.Days.{figure3, openedFor}
 use Rattle.unbounded.specs.Figure3.{Variables, Procedure, read, write, return, spent, scanProcedure, updateProcedure}
-use Rattle.unbounded.specs.Figure3.{Standing, After, Wrote, stateAfter, isTurn, ownOf, Follows, Performs}
+use Rattle.unbounded.specs.Figure3.{Standing, After, Wrote, stateAfter, isTurn, ownOf, Follows, Performs, CallsPerform}
 use Rattle.unbounded.proofs.Places.{page-of-long}
 use Rattle.unbounded.proofs.Reading.{position-low, place-below, Sized, sized-emptied, sized-read}
 use Rattle.unbounded.proofs.Scans.{Permutes}
+use Rattle.unbounded.proofs.Demand3.{ascending-permutes}
 use Rattle.unbounded.proofs.Figure3.{Does, turns-are-figure-3}
 
 -- ---- arrays keep their sizes
@@ -231,6 +231,13 @@ by-turn {X} {Y} d (turnOf c page) none own other = go (eqb c d) refl
 -- ---- a day
 
 module _ (n : ℕ) (z : 0 < n) (eight : n ≤ 8) (o : Order) (P : Permutes n o) where
+  abbrev M : Machine
+  M = figure3 o
+
+  -- process d's record
+  abbrev owner : State Process → ℕ → Process
+  owner s d = processOf M s d
+
   -- a day of n processes whose records have their sizes
   record Lent (s : State Process) : Type 0 where
     count : s .day .count ≡ n
@@ -239,15 +246,15 @@ module _ (n : ℕ) (z : 0 < n) (eight : n ≤ 8) (o : Order) (P : Permutes n o) 
 
   -- an accepted item of process c leaves it the record p
   module _ (s : State Process) (L : Lent s) (c : ℕ) (p : Process) (m : Among n c) where
-    own-advanced : processOf (figure3 o) (advance (figure3 o) s c p) c ≡ p
+    own-advanced : owner (advance M s c p) c ≡ p
     unfolding advance
     own-advanced = getD-set-same (s .table) (c - 1) p noProcess (omega (arith, L .size))
 
-    other-advanced : (d : ℕ) → Among n d → c ≢ d → processOf (figure3 o) (advance (figure3 o) s c p) d ≡ processOf (figure3 o) s d
+    other-advanced : (d : ℕ) → Among n d → c ≢ d → owner (advance M s c p) d ≡ owner s d
     unfolding advance
     other-advanced d k h = getD-set-other (s .table) (c - 1) (d - 1) p noProcess (λ q. h (omega arith))
 
-    lent-advanced : Whole n eight p → Lent (advance (figure3 o) s c p)
+    lent-advanced : Whole n eight p → Lent (advance M s c p)
     unfolding advance
     lent-advanced W =
         record {
@@ -261,71 +268,68 @@ module _ (n : ℕ) (z : 0 < n) (eight : n ≤ 8) (o : Order) (P : Permutes n o) 
   -- ---- one item
 
   module _ (s : State Process) (L : Lent s) where
-    abbrev owner : ℕ → Process
-    owner c = processOf (figure3 o) s c
-
     -- what acceptance tells of a call or a turn of process c
-    accepted : (c : ℕ) (short : Bool) (wrong : Cause) → firstCause (causes (figure3 o) s c short wrong) ≡ none →
+    accepted : (c : ℕ) (short : Bool) (wrong : Cause) → firstCause (causes M s c short wrong) ≡ none →
         Among n c × (wrong .0 ≡ false)
     accepted c short wrong q =
-        let w = accepted-passes (causes (figure3 o) s c short wrong) q in
+        let w = accepted-passes (causes M s c short wrong) q in
         (subst (λ k. Among k c) (L .count) (outside-among (s .day .count) c (w .1 .1 .1 .0)), w .1 .1 .1 .1 .0)
 
-    call-idle : (c : ℕ) → firstCause (callCauses (figure3 o) s c) ≡ none → Among n c × (isIdle (owner c .task) ≡ true)
+    call-idle : (c : ℕ) → firstCause (callCauses M s c) ≡ none → Among n c × (isIdle (owner s c .task) ≡ true)
     call-idle c q =
-        let w = accepted c false (not (isIdle (owner c .task)), Refusals.Busy) q in (w .0, not-false (isIdle (owner c .task)) (w .1))
+        let w = accepted c false (not (isIdle (owner s c .task)), Refusals.Busy) q in (w .0, not-false (isIdle (owner s c .task)) (w .1))
 
-    turn-busy : (c : ℕ) (page : List ℕ) → firstCause (turnCauses (figure3 o) s c page) ≡ none → Among n c
-    turn-busy c page q = accepted c (ltb (length page) (s .day .count)) (isIdle (owner c .task), Refusals.Idle) q .0
+    turn-busy : (c : ℕ) (page : List ℕ) → firstCause (turnCauses M s c page) ≡ none → Among n c
+    turn-busy c page q = accepted c (ltb (length page) (s .day .count)) (isIdle (owner s c .task), Refusals.Idle) q .0
 
-    never-opens : (k : ℕ) → firstCause (openingCauses (figure3 o) s k) ≡ none → ⊥
+    never-opens : (k : ℕ) → firstCause (openingCauses M s k) ≡ none → ⊥
     never-opens k q =
-        let w = accepted-passes (openingCauses (figure3 o) s k) q in
+        let w = accepted-passes (openingCauses M s k) q in
         let e = eqb-true (s .day .count) 0 (not-false (eqb (s .day .count) 0) (w .0)) in
         omega (arith, L .count)
 
-    step-refused : (x : Item) (k : Refusal) → refusal (figure3 o) s x ≡ some k → stepped (figure3 o) s x .state ≡ s
+    step-refused : (x : Item) (k : Refusal) → refusal M s x ≡ some k → stepped M s x .state ≡ s
     unfolding stepped step
-    step-refused x k q = ap (λ f. admit (Days.method (figure3 o) (s .day .count)) s x f .state) q
+    step-refused x k q = ap (λ f. admit (Days.method M (s .day .count)) s x f .state) q
 
-    step-accepted : (x : Item) → refusal (figure3 o) s x ≡ none → stepped (figure3 o) s x ≡ accept (figure3 o) s x
+    step-accepted : (x : Item) → refusal M s x ≡ none → stepped M s x ≡ accept M s x
     unfolding stepped step
-    step-accepted x q = ap (admit (Days.method (figure3 o) (s .day .count)) s x) q
+    step-accepted x q = ap (admit (Days.method M (s .day .count)) s x) q
 
     -- process c's record after a call
-    called-by : (c : ℕ) (j : Job) → calledBy (figure3 o) s c j ≡ advance (figure3 o) s c (begin n (taskOf j 0) (owner c))
+    called-by : (c : ℕ) (j : Job) → calledBy M s c j ≡ advance M s c (begin n (taskOf j 0) (owner s c))
     unfolding calledBy
-    called-by c j = ap (λ k. advance (figure3 o) s c (begin k (taskOf j 0) (owner c))) (L .count)
+    called-by c j = ap (λ k. advance M s c (begin k (taskOf j 0) (owner s c))) (L .count)
 
     -- the register that process c's next turn reads, and that turn
     abbrev readBy : ℕ → Register
-    readBy c = readFrom (figure3 o) (s .table) (reads o n (owner c .task)) .register
+    readBy c = readFrom M (s .table) (reads o n (owner s c .task)) .register
 
     abbrev turnNow : ℕ → List ℕ → Result Process
-    turnNow c page = turned o n (s .day .event + 1) (readBy c) page (owner c)
+    turnNow c page = turned o n (s .day .event + 1) (readBy c) page (owner s c)
 
-    turn-by : (c : ℕ) (page : List ℕ) → turnBy (figure3 o) s c page ≡ turnNow c page
+    turn-by : (c : ℕ) (page : List ℕ) → turnBy M s c page ≡ turnNow c page
     unfolding turnBy
     turn-by c page =
-        ap (λ k. turned o k (s .day .event + 1) (readFrom (figure3 o) (s .table) (reads o k (owner c .task)) .register) page (owner c)) (L .count)
+        ap (λ k. turned o k (s .day .event + 1) (readFrom M (s .table) (reads o k (owner s c .task)) .register) page (owner s c)) (L .count)
 
     whole-turn : (c : ℕ) (page : List ℕ) → Among n c → Whole n eight (turnNow c page .state)
     whole-turn c page m =
-        whole-turned n eight z o P (s .day .event + 1) (readBy c) page (owner c) (L .whole (c - 1) (omega arith))
-        (λ j q. ap (λ f. length (readFrom (figure3 o) (s .table) f .register .view)) q
-        ∙ L .whole j (reads-within o n P z (owner c .task) j q) .register)
+        whole-turned n eight z o P (s .day .event + 1) (readBy c) page (owner s c) (L .whole (c - 1) (omega arith))
+        (λ j q. ap (λ f. length (readFrom M (s .table) f .register .view)) q
+        ∙ L .whole j (reads-within o n P z (owner s c .task) j q) .register)
 
     -- what an item does: nothing, a call of an idle process, or a turn
     data Moves : Item → Option Refusal → State Process → Type 0 where
       refused : {x : Item} (k : Refusal) → Moves x (some k) s
-      updates : (c w : ℕ) → Among n c → isIdle (owner c .task) ≡ true →
-          Moves (updateCall c w) none (advance (figure3 o) s c (begin n (Update w 0) (owner c)))
-      scans : (c : ℕ) → Among n c → isIdle (owner c .task) ≡ true →
-          Moves (scanCall c) none (advance (figure3 o) s c (begin n (Scan 0) (owner c)))
+      updates : (c w : ℕ) → Among n c → isIdle (owner s c .task) ≡ true →
+          Moves (updateCall c w) none (advance M s c (begin n (Update w 0) (owner s c)))
+      scans : (c : ℕ) → Among n c → isIdle (owner s c .task) ≡ true →
+          Moves (scanCall c) none (advance M s c (begin n (Scan 0) (owner s c)))
       turns : (c : ℕ) (page : List ℕ) → Among n c →
-          Moves (turnOf c page) none (advance (figure3 o) s c (turnNow c page .state))
+          Moves (turnOf c page) none (advance M s c (turnNow c page .state))
 
-    moves-accepted : (x : Item) → refusal (figure3 o) s x ≡ none → Moves x none (accept (figure3 o) s x .state)
+    moves-accepted : (x : Item) → refusal M s x ≡ none → Moves x none (accept M s x .state)
     unfolding refusal accept
     moves-accepted (openFor k) q = absurd (never-opens k q)
     moves-accepted (updateCall c w) q =
@@ -334,44 +338,44 @@ module _ (n : ℕ) (z : 0 < n) (eight : n ≤ 8) (o : Order) (P : Permutes n o) 
     moves-accepted (scanCall c) q =
         let i = call-idle c q in subst (λ u. Moves (scanCall c) none u) (sym (called-by c scan)) (scans c (i .0) (i .1))
     moves-accepted (turnOf c page) q =
-        subst (λ r. Moves (turnOf c page) none (advance (figure3 o) s c (r .state))) (sym (turn-by c page))
+        subst (λ r. Moves (turnOf c page) none (advance M s c (r .state))) (sym (turn-by c page))
         (turns c page (turn-busy c page q))
 
-    moves : (x : Item) → Moves x (refusal (figure3 o) s x) (stepped (figure3 o) s x .state)
-    moves x = go (refusal (figure3 o) s x) refl
+    moves : (x : Item) → Moves x (refusal M s x) (stepped M s x .state)
+    moves x = go (refusal M s x) refl
       where
-        go : (f : Option Refusal) → refusal (figure3 o) s x ≡ f → Moves x f (stepped (figure3 o) s x .state)
+        go : (f : Option Refusal) → refusal M s x ≡ f → Moves x f (stepped M s x .state)
         go none q = subst (λ r. Moves x none (r .state)) (sym (step-accepted x q)) (moves-accepted x q)
         go (some k) q = subst (λ u. Moves x (some k) u) (sym (step-refused x k q)) (refused k)
 
     lent-moved : {x : Item} {f : Option Refusal} {u : State Process} → Moves x f u → Lent u
     lent-moved (refused k) = L
     lent-moved (updates c w m i) =
-        lent-advanced s L c (begin n (Update w 0) (owner c)) m
-        (whole-begin n eight (Update w 0) (owner c) (L .whole (c - 1) (omega arith)))
+        lent-advanced s L c (begin n (Update w 0) (owner s c)) m
+        (whole-begin n eight (Update w 0) (owner s c) (L .whole (c - 1) (omega arith)))
     lent-moved (scans c m i) =
-        lent-advanced s L c (begin n (Scan 0) (owner c)) m (whole-begin n eight (Scan 0) (owner c) (L .whole (c - 1) (omega arith)))
+        lent-advanced s L c (begin n (Scan 0) (owner s c)) m (whole-begin n eight (Scan 0) (owner s c) (L .whole (c - 1) (omega arith)))
     lent-moved (turns c page m) = lent-advanced s L c (turnNow c page .state) m (whole-turn c page m)
 
     -- process d, with a task, keeps its record unless the item is its turn
-    kept : (d : ℕ) → Among n d → isIdle (owner d .task) ≡ false → {x : Item} {f : Option Refusal} {u : State Process} → Moves x f u →
-        isTurn d x f ≡ false → processOf (figure3 o) u d ≡ owner d
+    kept : (d : ℕ) → Among n d → isIdle (owner s d .task) ≡ false → {x : Item} {f : Option Refusal} {u : State Process} → Moves x f u →
+        isTurn d x f ≡ false → owner u d ≡ owner s d
     kept d m busy (refused k) h = refl
     kept d m busy (updates c w b i) h =
-        other-advanced s L c (begin n (Update w 0) (owner c)) b d m
-        (λ q. true≢false (sym i ∙ ap (λ k. isIdle (owner k .task)) q ∙ busy))
+        other-advanced s L c (begin n (Update w 0) (owner s c)) b d m
+        (λ q. true≢false (sym i ∙ ap (λ k. isIdle (owner s k .task)) q ∙ busy))
     kept d m busy (scans c b i) h =
-        other-advanced s L c (begin n (Scan 0) (owner c)) b d m (λ q. true≢false (sym i ∙ ap (λ k. isIdle (owner k .task)) q ∙ busy))
+        other-advanced s L c (begin n (Scan 0) (owner s c)) b d m (λ q. true≢false (sym i ∙ ap (λ k. isIdle (owner s k .task)) q ∙ busy))
     kept d m busy (turns c page b) h = other-advanced s L c (turnNow c page .state) b d m (eqb-false c d h)
 
     -- its own turn
-    own-turn : (d : ℕ) (page : List ℕ) → Among n d → refusal (figure3 o) s (turnOf d page) ≡ none →
-        ownOf o d (stepped (figure3 o) s (turnOf d page)) ≡ turnNow d page
+    own-turn : (d : ℕ) (page : List ℕ) → Among n d → refusal M s (turnOf d page) ≡ none →
+        ownOf o d (stepped M s (turnOf d page)) ≡ turnNow d page
     unfolding accept
     own-turn d page m q =
         let r = turnNow d page in
         ap (ownOf o d) (step-accepted (turnOf d page) q)
-        ∙ ap (λ r. ownOf o d (record { state = advance (figure3 o) s d (r .state); answer = r .answer; page = r .page })) (turn-by d page)
+        ∙ ap (λ r. ownOf o d (record { state = advance M s d (r .state); answer = r .answer; page = r .page })) (turn-by d page)
         ∙ ap (λ p. record { state = p; answer = r .answer; page = r .page }) (own-advanced s L d (r .state) m)
 
   -- ---- along a list of items
@@ -379,20 +383,20 @@ module _ (n : ℕ) (z : 0 < n) (eight : n ≤ 8) (o : Order) (P : Permutes n o) 
   module _ (d : ℕ) (m : Among n d) where
     -- an accepted turn at a read: R is what then holds of the rest
     own-reads : (s : State Process) (L : Lent s) (v : Variables) (j : ℕ) (next : ℕ → Register → Procedure) (t : ℕ) (page : List ℕ) →
-        Does o n (read v j next) t (processOf (figure3 o) s d) → refusal (figure3 o) s (turnOf d page) ≡ none →
+        Does o n (read v j next) t (owner s d) → refusal M s (turnOf d page) ≡ none →
         let q = next (s .day .event + 1) (trimmed n (getD (s .table) j noProcess .register)) in
-        let r = stepped (figure3 o) s (turnOf d page) in
-        (R : Type 0) → (Does o n q (suc t) (processOf (figure3 o) (r .state) d) → R) →
-        After o n (λ p. R) (suc t) (processOf (figure3 o) s d) page (ownOf o d r) q
+        let r = stepped M s (turnOf d page) in
+        (R : Type 0) → (Does o n q (suc t) (owner (r .state) d) → R) →
+        After o n (λ p. R) (suc t) (owner s d) page (ownOf o d r) q
     unfolding Does
     own-reads s L v j next t page D a R rest =
-        let p = processOf (figure3 o) s d in
+        let p = owner s d in
         let r = getD (s .table) j noProcess .register in
         let q = next (s .day .event + 1) (trimmed n r) in
-        let x = ownOf o d (stepped (figure3 o) s (turnOf d page)) in
+        let x = ownOf o d (stepped M s (turnOf d page)) in
         let same : x ≡ turned o n (s .day .event + 1) r page p =
         own-turn s L d page m a
-        ∙ ap (λ f. turned o n (s .day .event + 1) (readFrom (figure3 o) (s .table) f .register) page p) (D .0 .2) in
+        ∙ ap (λ f. turned o n (s .day .event + 1) (readFrom M (s .table) f .register) page p) (D .0 .2) in
         after-map o n (Does o n q (suc t)) (λ p. R) (suc t) p page x q rest
         (subst (λ x. After o n (Does o n q (suc t)) (suc t) p page x q) (sym same)
         (D .1 (s .day .event + 1) r page (L .whole j (reads-within o n P z (p .task) j (D .0 .2)) .register)))
@@ -405,93 +409,93 @@ module _ (n : ℕ) (z : 0 < n) (eight : n ≤ 8) (o : Order) (P : Permutes n o) 
     does-stands spent t p D = tt
 
     module _ (Rest : Procedure → ℕ → State Process → Type 0)
-        (rest : (q : Procedure) (t : ℕ) (s : State Process) → Lent s → Does o n q t (processOf (figure3 o) s d) → Rest q t s)
+        (rest : (q : Procedure) (t : ℕ) (s : State Process) → Lent s → Does o n q t (owner s d) → Rest q t s)
         (t : ℕ) (s : State Process) (L : Lent s) (x : Item) where
       abbrev next-state : Item → State Process
-      next-state x = stepped (figure3 o) s x .state
+      next-state x = stepped M s x .state
 
       next-lent : (x : Item) → Lent (next-state x)
       next-lent x = lent-moved s L (moves s L x)
 
       -- an item that is no turn of process d
-      others-follow : (q : Procedure) → Does o n q t (processOf (figure3 o) s d) → isIdle (processOf (figure3 o) s d .task) ≡ false →
-          isTurn d x (refusal (figure3 o) s x) ≡ false →
-          (processOf (figure3 o) (next-state x) d ≡ processOf (figure3 o) s d) × Rest q t (next-state x)
+      others-follow : (q : Procedure) → Does o n q t (owner s d) → isIdle (owner s d .task) ≡ false →
+          isTurn d x (refusal M s x) ≡ false →
+          (owner (next-state x) d ≡ owner s d) × Rest q t (next-state x)
       others-follow q D busy h =
           let stay = kept s L d m busy (moves s L x) h in
           (stay, rest q t (next-state x) (next-lent x) (subst (λ p. Does o n q t p) (sym stay) D))
 
-      follows : (q : Procedure) → Does o n q t (processOf (figure3 o) s d) → Follows o n d Rest q t s x
+      follows : (q : Procedure) → Does o n q t (owner s d) → Follows o n d Rest q t s x
       unfolding Does
       follows (read v j next) D =
-          let p = processOf (figure3 o) s d in
+          let p = owner s d in
           let q = next (s .day .event + 1) (trimmed n (getD (s .table) j noProcess .register)) in
-          by-turn d x (refusal (figure3 o) s x)
+          by-turn d x (refusal M s x)
           (λ page e a.
-          subst (λ x. After o n (λ p. Rest q (suc t) (next-state x)) (suc t) p (pageLent x) (ownOf o d (stepped (figure3 o) s x)) q) (sym e)
-          (own-reads s L v j next t page D (subst (λ x. refusal (figure3 o) s x ≡ none) e a) (Rest q (suc t) (next-state (turnOf d page)))
+          subst (λ x. After o n (λ p. Rest q (suc t) (next-state x)) (suc t) p (pageLent x) (ownOf o d (stepped M s x)) q) (sym e)
+          (own-reads s L v j next t page D (subst (λ x. refusal M s x ≡ none) e a) (Rest q (suc t) (next-state (turnOf d page)))
           (rest q (suc t) (next-state (turnOf d page)) (next-lent (turnOf d page)))))
           (others-follow (read v j next) D (reads-busy o n (p .task) j (D .0 .2)))
       follows (write v w) D =
-          let p = processOf (figure3 o) s d in
+          let p = owner s d in
           let wrote = D .1 (s .day .event + 1) (readBy s L d) in
-          by-turn d x (refusal (figure3 o) s x)
+          by-turn d x (refusal M s x)
           (λ page e a.
-          subst (λ x. Wrote o n w (suc t) p (pageLent x) (ownOf o d (stepped (figure3 o) s x))) (sym e)
-          (subst (λ x. Wrote o n w (suc t) p page x) (sym (own-turn s L d page m (subst (λ x. refusal (figure3 o) s x ≡ none) e a)))
+          subst (λ x. Wrote o n w (suc t) p (pageLent x) (ownOf o d (stepped M s x))) (sym e)
+          (subst (λ x. Wrote o n w (suc t) p page x) (sym (own-turn s L d page m (subst (λ x. refusal M s x ≡ none) e a)))
           (wrote page)))
           (others-follow (write v w) D (writes-busy o n (s .day .event + 1) (readBy s L d) [] p (suc t) (wrote [] .0)))
       follows (return from at words) D = tt
       follows spent D = tt
 
-    performs : (xs : List Item) (q : Procedure) (t : ℕ) (s : State Process) → Lent s → Does o n q t (processOf (figure3 o) s d) →
+    performs : (xs : List Item) (q : Procedure) (t : ℕ) (s : State Process) → Lent s → Does o n q t (owner s d) →
         Performs o n d q t s xs
     unfolding Performs
-    performs [] q t s L D = does-stands q t (processOf (figure3 o) s d) D
+    performs [] q t s L D = does-stands q t (owner s d) D
     performs (x ∷ xs) q t s L D = (
-      does-stands q t (processOf (figure3 o) s d) D,
+      does-stands q t (owner s d) D,
       follows (λ q t s. Performs o n d q t s xs) (performs xs) t s L x q D,
     )
 
   -- ---- from a call on
 
   module _ (s : State Process) (L : Lent s) (d k : ℕ) where
-    after-call : (x : Item) (j : Job) → refusal (figure3 o) s x ≡ none → Among n d →
-        accept (figure3 o) s x .state ≡ calledBy (figure3 o) s d j →
-        processOf (figure3 o) (stepped (figure3 o) s x .state) d ≡ begin n (taskOf j 0) (processOf (figure3 o) s d)
+    after-call : (x : Item) (j : Job) → refusal M s x ≡ none → Among n d →
+        accept M s x .state ≡ calledBy M s d j →
+        owner (stepped M s x .state) d ≡ begin n (taskOf j 0) (owner s d)
     after-call x j a m q =
-        ap (λ r. processOf (figure3 o) (r .state) d) (step-accepted s L x a)
-        ∙ ap (λ u. processOf (figure3 o) u d) (q ∙ called-by s L d j)
-        ∙ own-advanced s L d (begin n (taskOf j 0) (processOf (figure3 o) s d)) m
+        ap (λ r. owner (r .state) d) (step-accepted s L x a)
+        ∙ ap (λ u. owner u d) (q ∙ called-by s L d j)
+        ∙ own-advanced s L d (begin n (taskOf j 0) (owner s d)) m
 
     abbrev own-seq : ℕ
-    own-seq = processOf (figure3 o) s d .register .seq
+    own-seq = owner s d .register .seq
 
-    scan-performs : (items : List Item) → refusal (figure3 o) s (scanCall d) ≡ none →
-        Performs o n d (scanProcedure o n k) 0 (stepped (figure3 o) s (scanCall d) .state) items
+    scan-performs : (items : List Item) → refusal M s (scanCall d) ≡ none →
+        Performs o n d (scanProcedure o n k) 0 (stepped M s (scanCall d) .state) items
     unfolding refusal accept
     scan-performs items a =
         let m = call-idle s L d a .0 in
-        performs d m items (scanProcedure o n k) 0 (stepped (figure3 o) s (scanCall d) .state)
+        performs d m items (scanProcedure o n k) 0 (stepped M s (scanCall d) .state)
         (lent-moved s L (moves s L (scanCall d)))
         (subst (λ p. Does o n (scanProcedure o n k) 0 p) (sym (after-call (scanCall d) scan a m refl))
-        (turns-are-figure-3 n o P z eight (processOf (figure3 o) s d) (L .whole (d - 1) (omega arith) .sized) k .0))
+        (turns-are-figure-3 n o P z eight (owner s d) (L .whole (d - 1) (omega arith) .sized) k .0))
 
-    update-performs : (items : List Item) (w : ℕ) → refusal (figure3 o) s (updateCall d w) ≡ none →
-        Performs o n d (updateProcedure o n k w own-seq) 0 (stepped (figure3 o) s (updateCall d w) .state) items
+    update-performs : (items : List Item) (w : ℕ) → refusal M s (updateCall d w) ≡ none →
+        Performs o n d (updateProcedure o n k w own-seq) 0 (stepped M s (updateCall d w) .state) items
     unfolding refusal accept
     update-performs items w a =
         let m = call-idle s L d a .0 in
-        performs d m items (updateProcedure o n k w own-seq) 0 (stepped (figure3 o) s (updateCall d w) .state)
+        performs d m items (updateProcedure o n k w own-seq) 0 (stepped M s (updateCall d w) .state)
         (lent-moved s L (moves s L (updateCall d w)))
         (subst (λ p. Does o n (updateProcedure o n k w own-seq) 0 p) (sym (after-call (updateCall d w) (update d w) a m refl))
-        (turns-are-figure-3 n o P z eight (processOf (figure3 o) s d) (L .whole (d - 1) (omega arith) .sized) k .1 w))
+        (turns-are-figure-3 n o P z eight (owner s d) (L .whole (d - 1) (omega arith) .sized) k .1 w))
 
   -- ---- a day from its opening on
 
   lent-after : (xs : List Item) (s : State Process) → Lent s → Lent (stateAfter o s xs)
   lent-after [] s L = L
-  lent-after (x ∷ xs) s L = lent-after xs (stepped (figure3 o) s x .state) (lent-moved s L (moves s L x))
+  lent-after (x ∷ xs) s L = lent-after xs (stepped M s x .state) (lent-moved s L (moves s L x))
 
   whole-zero : Whole n eight zeroProcess
   whole-zero =
@@ -511,16 +515,15 @@ module _ (n : ℕ) (z : 0 < n) (eight : n ≤ 8) (o : Order) (P : Permutes n o) 
         whole = λ i l. subst (Whole n eight) (sym (getD-replicate n i zeroProcess noProcess l)) whole-zero;
       }
 
--- on a day of any n from 1 to 8 processes, after any items: from an accepted call of process d on, its accepted turns are Figure 3's
--- procedure, for any number k of rounds, whatever items follow
-pub days-are-figure-3 : (n : ℕ) (o : Order) → Permutes n o → 0 < n → n ≤ 8 → (before items : List Item) (d k : ℕ) →
-    let s = stateAfter o (openedFor n) before in
-    (refusal (figure3 o) s (scanCall d) ≡ none →
-    Performs o n d (scanProcedure o n k) 0 (stepped (figure3 o) s (scanCall d) .state) items)
-    × ((w : ℕ) → refusal (figure3 o) s (updateCall d w) ≡ none →
-    Performs o n d (updateProcedure o n k w (processOf (figure3 o) s d .register .seq)) 0
-    (stepped (figure3 o) s (updateCall d w) .state) items)
-days-are-figure-3 n o P z eight before items d k =
+-- from every accepted call on, whatever came before and whatever comes between, the accepted turns of a process are Figure 3's
+-- procedure: every n from 1 to 8, every order of reading, any number k of rounds
+pub days-are-figure-3-ordered : (n : ℕ) (o : Order) → Permutes n o → 0 < n → n ≤ 8 → (before items : List Item) (d k : ℕ) →
+    CallsPerform o n before items d k
+days-are-figure-3-ordered n o P z eight before items d k =
     let s = stateAfter o (openedFor n) before in
     let L = lent-after n z eight o P before (openedFor n) (lent-opened n z eight o P) in
     (scan-performs n z eight o P s L d k items, update-performs n z eight o P s L d k items)
+
+-- the same where registers are read in the order of the processes
+pub days-are-figure-3 : (n : ℕ) → 0 < n → n ≤ 8 → (before items : List Item) (d k : ℕ) → CallsPerform ascending n before items d k
+days-are-figure-3 n = days-are-figure-3-ordered n ascending (ascending-permutes n)

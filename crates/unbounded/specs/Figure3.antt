@@ -1,5 +1,5 @@
 -- Figure 3 of Afek and others, "The unbounded single-writer algorithm", as it is printed: scan and update as functions of what
--- their reads return, and what it means that the turns of a process are such a procedure, one access at a time.
+-- their reads return, and what it means that on a day the turns of a process are such a procedure, one access at a time.
 use Prim.Native.Nat.{ℕ, zero, suc, _+_, _<_}
 use mathlib.Core.Path.{_≡_}
 use mathlib.Core.Bool.{Bool, true, false, cond}
@@ -20,7 +20,7 @@ use Rattle.unbounded.specs.Registers.{value, trimmed, Order, collectedAt
 use Rattle.unbounded.specs.declared.Task.the-variants.{Idle}
 use Rattle.unbounded.specs.Processes.{noProcess, turnsOf, emptied, begin}
 use Rattle.unbounded.specs.Turns.{reads}
-use Rattle.unbounded.specs.Days.{figure3}
+use Rattle.unbounded.specs.Days.{figure3, openedFor}
 
 -- ---- what the figure works on
 
@@ -43,9 +43,9 @@ pub record Variables : Type 0 where
   pub b : Array Register
   pub ended : ℕ
 
--- what a procedure does next: read register j and go on with the number of that turn and what the read returns; write its own
--- register and return; return the words, with the process that lent them, from 1, or 0, and their instant; `spent` is where a given
--- number of rounds of "while true" ends
+-- what a procedure does next: read register j and go on with that turn's number and what the read returns; write its own register
+-- and return; return the words, with the process that lent them, from 1, or 0, and their instant; `spent` is where a given number
+-- of rounds of "while true" ends
 pub data Procedure : Type 0 where
   read : Variables → (j : ℕ) → ((now : ℕ) → Register → Procedure) → Procedure
   write : Variables → Register → Procedure
@@ -169,8 +169,8 @@ abbrev pub ownOf : Order → (d : ℕ) → Result (State Process) → Result Pro
 ownOf o d r = record { state = processOf (figure3 o) (r .state) d; answer = r .answer; page = r .page }
 
 module _ (o : Order) (n d : ℕ) where
-  -- item x on state s, where process d is at a procedure and has made t accesses: an accepted turn of d makes the next access, and a
-  -- read returns the register as it stands then; anything else leaves d's record as it is; Rest is what holds after x
+  -- item x on state s, where process d is at a procedure and has made t accesses: an accepted turn of d makes the next access, and
+  -- a read returns the register as it stands then; anything else leaves d's record as it is; Rest is what holds after x
   abbrev pub Follows : (Rest : Procedure → ℕ → State Process → Type 0) → Procedure → (t : ℕ) → State Process → Item → Type 0
   Follows Rest (read v j next) t s x =
       let p = processOf (figure3 o) s d in
@@ -192,3 +192,13 @@ module _ (o : Order) (n d : ℕ) where
   Performs q t s [] = Standing o n q t (processOf (figure3 o) s d)
   Performs q t s (x ∷ xs) =
       Standing o n q t (processOf (figure3 o) s d) × Follows (λ q t s. Performs q t s xs) q t s x
+
+-- on a day just opened for n processes, after the items before: from an accepted call of process d on, its accepted turns among the
+-- items are scan, or update, of k rounds
+abbrev pub CallsPerform : Order → (n : ℕ) → (before items : List Item) → (d k : ℕ) → Type 0
+CallsPerform o n before items d k =
+    let M = figure3 o in
+    let s = stateAfter o (openedFor n) before in
+    (refusal M s (scanCall d) ≡ none → Performs o n d (scanProcedure o n k) 0 (Days.stepped M s (scanCall d) .state) items)
+    × ((w : ℕ) → refusal M s (updateCall d w) ≡ none →
+    Performs o n d (updateProcedure o n k w (processOf M s d .register .seq)) 0 (Days.stepped M s (updateCall d w) .state) items)
