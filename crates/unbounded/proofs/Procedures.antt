@@ -33,10 +33,11 @@ use Rattle.unbounded.specs.declared.Register.{Register}
 use Rattle.unbounded.specs.declared.Process.{Process}
 use Rattle.unbounded.specs.declared.Task.{Task}
 use Rattle.unbounded.specs.declared.Task.the-variants.{Idle, Scan, Update, Ready}
-use Rattle.unbounded.specs.Registers.{noRegister, zeroRegister, trimmed, Order, ascending, collectedAt, differs, laid, readInto, cleared}
+use Rattle.unbounded.specs.Registers.{noRegister, zeroRegister, trimmed, Order, ascending, collectedAt}
+use Rattle.unbounded.specs.Registers.{differs, laid, readInto, cleared}
 use Rattle.unbounded.specs.Processes.{noProcess, zeroProcess, isIdle, taskOf, emptied, begin}
-use Rattle.unbounded.specs.Turns.{position, placeAt, reads, firstAfter, secondAfter, endAfter, decision, found, afterRead, foundBy}
-use Rattle.unbounded.specs.Turns.{scanTurn, updateTurn, written, turnedBy, turned}
+use Rattle.unbounded.specs.Turns.{position, placeAt, reads, firstAfter, secondAfter, endAfter, decision}
+use Rattle.unbounded.specs.Turns.{found, afterRead, foundBy, scanTurn, updateTurn, written, turnedBy, turned}
 use Rattle.unbounded.specs.Days.{figure3, openedFor}
 use Rattle.unbounded.specs.Figure3.{Variables, Procedure, read, write, return, spent, scanProcedure, updateProcedure}
 use Rattle.unbounded.specs.Figure3.{Standing, After, Wrote, stateAfter, isTurn, ownOf, Follows, Performs, CallsPerform}
@@ -64,7 +65,8 @@ module _ (n : ℕ) (eight : n ≤ 8) where
   unfolding laid
   length-laid r old l m = length-over n (r .view) (old .view) (length-take-le n (r .view) (omega arith)) (omega arith) ∙ m
 
-  views-read : (r : Register) (i : ℕ) (rs : List Register) → i < n → 8 ≤ length rs → length (r .view) ≡ 8 → Views rs → Views (readInto n r i rs)
+  views-read : (r : Register) (i : ℕ) (rs : List Register) → i < n → 8 ≤ length rs → length (r .view) ≡ 8 → Views rs →
+      Views (readInto n r i rs)
   unfolding readInto
   views-read r i rs l m full h j b =
       let new = laid n r (getD rs i noRegister) in
@@ -79,7 +81,8 @@ module _ (n : ℕ) (eight : n ≤ 8) where
   unfolding cleared
   views-cleared rs l h j b =
       let zeros = map (laid n zeroRegister) rs in
-      let long : length (take n zeros) ≡ n = length-take-le n zeros (let q = length-map rs (laid n zeroRegister) in omega arith) in
+      let size = length-map rs (laid n zeroRegister) in
+      let long : length (take n zeros) ≡ n = length-take-le n zeros (omega arith) in
       ap (λ u. length (u .view))
       (getD-over n zeros rs j noRegister long b ∙ getD-map-below (laid n zeroRegister) rs j noRegister noRegister (omega arith))
       ∙ length-laid zeroRegister (getD rs j noRegister) (length-replicate {A = ℕ} 8 0) (h j b)
@@ -99,8 +102,8 @@ module _ (n : ℕ) (eight : n ≤ 8) where
   whole-begin k p W = whole-emptied (p .register) k p (W .register) W
 
   -- a read at position pos of register r
-  module _ (o : Order) (P : Permutes n o) (now pos : ℕ) (low : pos < 2 * n) (r : Register) (full : length (r .view) ≡ 8) (p : Process)
-      (W : Whole p) where
+  module _ (o : Order) (P : Permutes n o) (now pos : ℕ) (low : pos < 2 * n) (r : Register) (full : length (r .view) ≡ 8)
+      (p : Process) (W : Whole p) where
     views-second : Views (secondAfter n pos r (p .second))
     unfolding secondAfter
     views-second = go (ltb pos n)
@@ -160,7 +163,8 @@ module _ (n : ℕ) (eight : n ≤ 8) where
     length-written : (w at : ℕ) → length (written n w at p .view) ≡ 8
     unfolding written
     length-written w at =
-        length-laid (record { word = w; seq = p .register .seq + 1; view = p .view; at = at }) (p .register) (W .view) (W .register)
+        length-laid (record { word = w; seq = p .register .seq + 1; view = p .view; at = at }) (p .register) (W .view)
+        (W .register)
 
     whole-turned : ((j : ℕ) → reads o n (p .task) ≡ some j → length (r .view) ≡ 8) → Whole (turned o n now r page p .state)
     unfolding turned
@@ -208,8 +212,8 @@ writes-busy o n now r page p t = go (p .task)
     go (Ready w at u) q = refl
 
 -- what holds of the record after a turn is carried over
-after-map : (o : Order) (n : ℕ) (N N′ : Process → Type 0) (t : ℕ) (p : Process) (page : List ℕ) (x : Result Process) (q : Procedure) →
-    (N (x .state) → N′ (x .state)) → After o n N t p page x q → After o n N′ t p page x q
+after-map : (o : Order) (n : ℕ) (N N′ : Process → Type 0) (t : ℕ) (p : Process) (page : List ℕ) (x : Result Process)
+    (q : Procedure) → (N (x .state) → N′ (x .state)) → After o n N t p page x q → After o n N′ t p page x q
 after-map o n N N′ t p page x (read v j next) f h = (h .0, h .1, h .2, f (h .3))
 after-map o n N N′ t p page x (write v w) f h = (h .0, h .1, h .2, f (h .3))
 after-map o n N N′ t p page x (return from at words) f h = h
@@ -277,7 +281,8 @@ module _ (n : ℕ) (z : 0 < n) (eight : n ≤ 8) (o : Order) (P : Permutes n o) 
 
     call-idle : (c : ℕ) → firstCause (callCauses M s c) ≡ none → Among n c × (isIdle (owner s c .task) ≡ true)
     call-idle c q =
-        let w = accepted c false (not (isIdle (owner s c .task)), Refusals.Busy) q in (w .0, not-false (isIdle (owner s c .task)) (w .1))
+        let w = accepted c false (not (isIdle (owner s c .task)), Refusals.Busy) q in
+        (w .0, not-false (isIdle (owner s c .task)) (w .1))
 
     turn-busy : (c : ℕ) (page : List ℕ) → firstCause (turnCauses M s c page) ≡ none → Among n c
     turn-busy c page q = accepted c (ltb (length page) (s .day .count)) (isIdle (owner s c .task), Refusals.Idle) q .0
@@ -311,7 +316,8 @@ module _ (n : ℕ) (z : 0 < n) (eight : n ≤ 8) (o : Order) (P : Permutes n o) 
     turn-by : (c : ℕ) (page : List ℕ) → turnBy M s c page ≡ turnNow c page
     unfolding turnBy
     turn-by c page =
-        ap (λ k. turned o k (s .day .event + 1) (readFrom M (s .table) (reads o k (owner s c .task)) .register) page (owner s c)) (L .count)
+        ap (λ k. turned o k (s .day .event + 1) (readFrom M (s .table) (reads o k (owner s c .task)) .register) page (owner s c))
+        (L .count)
 
     whole-turn : (c : ℕ) (page : List ℕ) → Among n c → Whole n eight (turnNow c page .state)
     whole-turn c page m =
@@ -354,18 +360,20 @@ module _ (n : ℕ) (z : 0 < n) (eight : n ≤ 8) (o : Order) (P : Permutes n o) 
         lent-advanced s L c (begin n (Update w 0) (owner s c)) m
         (whole-begin n eight (Update w 0) (owner s c) (L .whole (c - 1) (omega arith)))
     lent-moved (scans c m i) =
-        lent-advanced s L c (begin n (Scan 0) (owner s c)) m (whole-begin n eight (Scan 0) (owner s c) (L .whole (c - 1) (omega arith)))
+        lent-advanced s L c (begin n (Scan 0) (owner s c)) m
+        (whole-begin n eight (Scan 0) (owner s c) (L .whole (c - 1) (omega arith)))
     lent-moved (turns c page m) = lent-advanced s L c (turnNow c page .state) m (whole-turn c page m)
 
     -- process d, with a task, keeps its record unless the item is its turn
-    kept : (d : ℕ) → Among n d → isIdle (owner s d .task) ≡ false → {x : Item} {f : Option Refusal} {u : State Process} → Moves x f u →
-        isTurn d x f ≡ false → owner u d ≡ owner s d
+    kept : (d : ℕ) → Among n d → isIdle (owner s d .task) ≡ false → {x : Item} {f : Option Refusal} {u : State Process} →
+        Moves x f u → isTurn d x f ≡ false → owner u d ≡ owner s d
     kept d m busy (refused k) h = refl
     kept d m busy (updates c w b i) h =
         other-advanced s L c (begin n (Update w 0) (owner s c)) b d m
         (λ q. true≢false (sym i ∙ ap (λ k. isIdle (owner s k .task)) q ∙ busy))
     kept d m busy (scans c b i) h =
-        other-advanced s L c (begin n (Scan 0) (owner s c)) b d m (λ q. true≢false (sym i ∙ ap (λ k. isIdle (owner s k .task)) q ∙ busy))
+        other-advanced s L c (begin n (Scan 0) (owner s c)) b d m
+        (λ q. true≢false (sym i ∙ ap (λ k. isIdle (owner s k .task)) q ∙ busy))
     kept d m busy (turns c page b) h = other-advanced s L c (turnNow c page .state) b d m (eqb-false c d h)
 
     -- its own turn
@@ -382,8 +390,8 @@ module _ (n : ℕ) (z : 0 < n) (eight : n ≤ 8) (o : Order) (P : Permutes n o) 
 
   module _ (d : ℕ) (m : Among n d) where
     -- an accepted turn at a read: R is what then holds of the rest
-    own-reads : (s : State Process) (L : Lent s) (v : Variables) (j : ℕ) (next : ℕ → Register → Procedure) (t : ℕ) (page : List ℕ) →
-        Does o n (read v j next) t (owner s d) → refusal M s (turnOf d page) ≡ none →
+    own-reads : (s : State Process) (L : Lent s) (v : Variables) (j : ℕ) (next : ℕ → Register → Procedure) (t : ℕ)
+        (page : List ℕ) → Does o n (read v j next) t (owner s d) → refusal M s (turnOf d page) ≡ none →
         let q = next (s .day .event + 1) (trimmed n (getD (s .table) j noProcess .register)) in
         let r = stepped M s (turnOf d page) in
         (R : Type 0) → (Does o n q (suc t) (owner (r .state) d) → R) →

@@ -169,8 +169,8 @@ abbrev pub ownOf : Order → (d : ℕ) → Result (State Process) → Result Pro
 ownOf o d r = record { state = processOf (figure3 o) (r .state) d; answer = r .answer; page = r .page }
 
 module _ (o : Order) (n d : ℕ) where
-  -- item x on state s, where process d is at a procedure and has made t accesses: an accepted turn of d makes the next access, and
-  -- a read returns the register as it stands then; anything else leaves d's record as it is; Rest is what holds after x
+  -- item x on state s, where process d is at a procedure and has made t accesses: an accepted turn of d makes the next access,
+  -- and a read returns the register as it stands then; anything else leaves d's record as it is; Rest is what holds after x
   abbrev pub Follows : (Rest : Procedure → ℕ → State Process → Type 0) → Procedure → (t : ℕ) → State Process → Item → Type 0
   Follows Rest (read v j next) t s x =
       let p = processOf (figure3 o) s d in
@@ -193,8 +193,8 @@ module _ (o : Order) (n d : ℕ) where
   Performs q t s (x ∷ xs) =
       Standing o n q t (processOf (figure3 o) s d) × Follows (λ q t s. Performs q t s xs) q t s x
 
--- on a day just opened for n processes, after the items before: from an accepted call of process d on, its accepted turns among the
--- items are scan, or update, of k rounds
+-- on a day just opened for n processes, after the items before: from an accepted call of process d on, its accepted turns among
+-- the items are scan, or update, of k rounds
 abbrev pub CallsPerform : Order → (n : ℕ) → (before items : List Item) → (d k : ℕ) → Type 0
 CallsPerform o n before items d k =
     let M = figure3 o in
