@@ -312,7 +312,7 @@ after-while : (o : Order) (n : ℕ) → 0 < n → (F : Variables → ℕ → ℕ
     After o n (Does o n (whileTrue o n F k moved x y e) t) t p pg (record { state = p′; answer = Read; page = pg }) (whileTrue o n F k moved x y e)
 unfolding whileTrue collect
 after-while o zero z F k moved x y e t p pg p′ q does = absurd (omega arith)
-after-while o (suc n) z F zero moved x y e t p pg p′ q does = tt
+after-while o (suc n) z F zero moved x y e t p pg p′ q does = does
 after-while o (suc n) z F (suc k) moved x y e t p pg p′ q does = (refl, refl, q, does)
 
 module _ (n : ℕ) (o : Order) (P : Permutes n o) (z : 0 < n) (eight : n ≤ 8) (K : Job) (s : ℕ) where

@@ -1,6 +1,6 @@
 -- Figure 3 on a day: from an accepted call on, the accepted turns of its process are the figure's procedure, over the registers
 -- as they stand at each turn, with anything else in between.
-use Prim.Native.Nat.{ℕ, suc, _+_, _*_, _-_, _≤_, _<_}
+use Prim.Native.Nat.{ℕ, zero, suc, _+_, _*_, _-_, _≤_, _<_}
 use native.Mathlib.Omega.{arith}
 use native.Mathlib.Decide.{ℕ-discrete}
 use mathlib.Core.Path.{_≡_, refl, sym, ap, _∙_, subst}
@@ -12,7 +12,7 @@ use lib.ListN.{length, getD, set, take, replicate, length-map, length-set, lengt
 use lib.Seq.{length-take-le, getD-set-same, getD-set-other}
 use lib.Dec.{eqb, ltb}
 use borrow.Author.Tests.{eqb-true, eqb-false}
-use Rattle.snapshot.specs.Lists.{over}
+use Rattle.snapshot.specs.Lists.{over, each, everyFrom}
 use Rattle.snapshot.specs.Tally.{Job, scan, update}
 use Rattle.snapshot.specs.Marks.{lends, Found}
 use Rattle.snapshot.specs.Demand.{Result, Among, admit, step}
@@ -33,12 +33,13 @@ use Rattle.unbounded.specs.declared.Register.{Register}
 use Rattle.unbounded.specs.declared.Process.{Process}
 use Rattle.unbounded.specs.declared.Task.{Task}
 use Rattle.unbounded.specs.declared.Task.the-variants.{Idle, Scan, Update, Ready}
-use Rattle.unbounded.specs.Registers.{noRegister, zeroRegister, trimmed, Order, ascending, collectedAt}
+use Rattle.unbounded.specs.Registers.{noRegister, zeroRegister, value, trimmed, Order, ascending, collectedAt}
 use Rattle.unbounded.specs.Registers.{differs, laid, readInto, cleared}
 use Rattle.unbounded.specs.Processes.{noProcess, zeroProcess, isIdle, taskOf, emptied, begin}
 use Rattle.unbounded.specs.Turns.{position, placeAt, reads, firstAfter, secondAfter, endAfter, decision}
 use Rattle.unbounded.specs.Turns.{found, afterRead, foundBy, scanTurn, updateTurn, written, turnedBy, turned}
 use Rattle.unbounded.specs.Days.{figure3, openedFor}
+use Rattle.unbounded.specs.Figure3.{Array, assigned, collect, search, whileTrue, scanFor, initial}
 use Rattle.unbounded.specs.Figure3.{Variables, Procedure, read, write, return, spent, scanProcedure, updateProcedure}
 use Rattle.unbounded.specs.Figure3.{Standing, After, Wrote, stateAfter, isTurn, ownOf, Follows, Performs, CallsPerform}
 use Rattle.unbounded.proofs.Places.{page-of-long}
@@ -217,7 +218,7 @@ after-map : (o : Order) (n : ℕ) (N N′ : Process → Type 0) (t : ℕ) (p : P
 after-map o n N N′ t p page x (read v j next) f h = (h .0, h .1, h .2, f (h .3))
 after-map o n N N′ t p page x (write v w) f h = (h .0, h .1, h .2, f (h .3))
 after-map o n N N′ t p page x (return from at words) f h = h
-after-map o n N N′ t p page x spent f h = h
+after-map o n N N′ t p page x spent f h = f h
 
 -- an item is an accepted turn of process d, or it is not
 by-turn : {X Y : Type 0} (d : ℕ) (x : Item) (f : Option Refusal) →
@@ -231,6 +232,100 @@ by-turn {X} {Y} d (turnOf c page) none own other = go (eqb c d) refl
     go : (b : Bool) → eqb c d ≡ b → cond b X Y
     go true q = own page (ap (λ k. turnOf k page) (eqb-true c d q)) refl
     go false q = other q
+
+-- ---- enough rounds
+
+-- the procedure is not spent by m more accesses, whatever its reads return
+Lasts : Procedure → ℕ → Type 0
+Lasts (read v j next) zero = Unit {0}
+Lasts (read v j next) (suc m) = (now : ℕ) (r : Register) → Lasts (next now r) m
+Lasts (write v w) m = Unit {0}
+Lasts (return from at words) m = Unit {0}
+Lasts spent m = ⊥
+
+lasts-fewer : (q : Procedure) (k m : ℕ) → m ≤ k → Lasts q k → Lasts q m
+unfolding Lasts
+lasts-fewer (read v j next) k zero l h = tt
+lasts-fewer (read v j next) zero (suc m) l h = absurd (omega arith)
+lasts-fewer (read v j next) (suc k) (suc m) l h = λ now r. lasts-fewer (next now r) k m (omega arith) (h now r)
+lasts-fewer (write v w) k m l h = tt
+lasts-fewer (return from at words) k m l h = tt
+lasts-fewer spent k m l h = h
+
+either-lasts : (b : Bool) (p q : Procedure) (m : ℕ) → Lasts p m → Lasts q m → Lasts (cond b p q) m
+either-lasts true p q m h g = h
+either-lasts false p q m h g = g
+
+collect-lasts : (o : Order) (k p : ℕ) (v : Array Register → Variables) (last : ℕ) (x : Array Register)
+    (next : ℕ → Array Register → Procedure) (m : ℕ) → ((last : ℕ) (x : Array Register) → Lasts (next last x) m) →
+    Lasts (collect o k p v last x next) m
+unfolding Lasts collect
+collect-lasts o zero p v last x next m h = h last x
+collect-lasts o (suc k) p v last x next zero h = tt
+collect-lasts o (suc k) p v last x next (suc m) h = λ now r.
+    collect-lasts o k (suc p) v now (assigned x (o .register p) r) next m
+    (λ last x. lasts-fewer (next last x) (suc m) m (omega arith) (h last x))
+
+module _ (a b : Array Register) (again : Array ℕ → Procedure) (finish : Array ℕ → (lender at : ℕ) → List ℕ → Procedure) (m : ℕ)
+    (h : (moved : Array ℕ) → Lasts (again moved) m)
+    (g : (moved : Array ℕ) (from at : ℕ) (words : List ℕ) → Lasts (finish moved from at words) m) where
+  search-lasts : (k j : ℕ) (moved : Array ℕ) → Lasts (search k j a b moved again finish) m
+  unfolding search
+  search-lasts zero j moved = h moved
+  search-lasts (suc k) j moved =
+      let marked = search k (suc j) a b (assigned moved j (moved j + 1)) again finish in
+      let lent = finish moved (suc j) (b j .at) (b j .view) in
+      either-lasts (eqb (a j .seq) (b j .seq)) (search k (suc j) a b moved again finish) (cond (eqb (moved j) 1) lent marked) m
+      (search-lasts k (suc j) moved)
+      (either-lasts (eqb (moved j) 1) lent marked m (g moved (suc j) (b j .at) (b j .view))
+      (search-lasts k (suc j) (assigned moved j (moved j + 1))))
+
+-- a round takes an access at least
+module _ (o : Order) (F : Variables → (lender at : ℕ) → List ℕ → Procedure)
+    (g : (v : Variables) (from at : ℕ) (words : List ℕ) (m : ℕ) → Lasts (F v from at words) m) where
+  while-lasts : (n k : ℕ) (moved : Array ℕ) (a b : Array Register) (e : ℕ) → 0 < n → Lasts (whileTrue o n F (suc k) moved a b e) k
+  unfolding Lasts collect whileTrue
+  while-lasts zero k moved a b e z = absurd (omega arith)
+  while-lasts (suc n) zero moved a b e z = tt
+  while-lasts (suc n) (suc k) moved a b e z = λ now r.
+      collect-lasts o n 1 (λ a. record { moved = moved; a = a; b = b; ended = e }) now (assigned a (o .register 0) r)
+      (λ e a. collect o (suc n) 0 (λ b. record { moved = moved; a = a; b = b; ended = e }) e b (λ last b. closes a b e)) k
+      (λ e a.
+      collect-lasts o (suc n) 0 (λ b. record { moved = moved; a = a; b = b; ended = e }) e b (λ last b. closes a b e) k
+      (λ last b.
+      either-lasts (everyFrom (λ j. eqb (a j .seq) (b j .seq)) (suc n) 0)
+      (F (record { moved = moved; a = a; b = b; ended = e }) 0 e (each (suc n) (λ j. value (b j)))) (searches a b e) k
+      (g (record { moved = moved; a = a; b = b; ended = e }) 0 e (each (suc n) (λ j. value (b j))) k)
+      (search-lasts a b (λ moved. whileTrue o (suc n) F (suc k) moved a b e)
+      (λ moved. F (record { moved = moved; a = a; b = b; ended = e })) k (λ moved. while-lasts (suc n) k moved a b e z)
+      (λ moved from at words. g (record { moved = moved; a = a; b = b; ended = e }) from at words k) (suc n) 0 moved)))
+    where
+      searches : (a b : Array Register) (e : ℕ) → Procedure
+      searches a b e =
+          search (suc n) 0 a b moved (λ moved. whileTrue o (suc n) F (suc k) moved a b e)
+          (λ moved. F (record { moved = moved; a = a; b = b; ended = e }))
+
+      closes : (a b : Array Register) (e : ℕ) → Procedure
+      closes a b e =
+          cond (everyFrom (λ j. eqb (a j .seq) (b j .seq)) (suc n) 0)
+          (F (record { moved = moved; a = a; b = b; ended = e }) 0 e (each (suc n) (λ j. value (b j)))) (searches a b e)
+
+  for-lasts : (n k m : ℕ) → 0 < n → m < k → Lasts (scanFor o n F k) m
+  unfolding scanFor
+  for-lasts n zero m z l = absurd (omega arith)
+  for-lasts n (suc k) m z l =
+      let none : Array ℕ = λ j. 0 in
+      let blank : Array Register = λ j. initial n in
+      lasts-fewer (whileTrue o n F (suc k) none blank blank 0) k m (omega arith) (while-lasts n k none blank blank 0 z)
+
+scan-lasts : (o : Order) (n k m : ℕ) → 0 < n → m < k → Lasts (scanProcedure o n k) m
+unfolding Lasts
+scan-lasts o n k m z l = for-lasts o (λ v. return) (λ v from at words m. tt) n k m z l
+
+update-lasts : (o : Order) (n k w s m : ℕ) → 0 < n → m < k → Lasts (updateProcedure o n k w s) m
+unfolding Lasts
+update-lasts o n k w s m z l =
+    for-lasts o (λ v from at words. write v (record { word = w; seq = s + 1; view = words; at = at })) (λ v from at words m. tt) n k m z l
 
 -- ---- a day
 
@@ -409,15 +504,15 @@ module _ (n : ℕ) (z : 0 < n) (eight : n ≤ 8) (o : Order) (P : Permutes n o) 
         (subst (λ x. After o n (Does o n q (suc t)) (suc t) p page x q) (sym same)
         (D .1 (s .day .event + 1) r page (L .whole j (reads-within o n P z (p .task) j (D .0 .2)) .register)))
 
-    does-stands : (q : Procedure) (t : ℕ) (p : Process) → Does o n q t p → Standing o n q t p
-    unfolding Does
-    does-stands (read v j next) t p D = D .0
-    does-stands (write v w) t p D = D .0
-    does-stands (return from at words) t p D = tt
-    does-stands spent t p D = tt
+    does-stands : (q : Procedure) (t : ℕ) (p : Process) (k : ℕ) → Lasts q k → Does o n q t p → Standing o n q t p
+    unfolding Does Lasts
+    does-stands (read v j next) t p k l D = D .0
+    does-stands (write v w) t p k l D = D .0
+    does-stands (return from at words) t p k l D = tt
+    does-stands spent t p k l D = l
 
-    module _ (Rest : Procedure → ℕ → State Process → Type 0)
-        (rest : (q : Procedure) (t : ℕ) (s : State Process) → Lent s → Does o n q t (owner s d) → Rest q t s)
+    module _ (Rest : Procedure → ℕ → State Process → Type 0) (k : ℕ)
+        (rest : (q : Procedure) (t : ℕ) (s : State Process) → Lent s → Lasts q k → Does o n q t (owner s d) → Rest q t s)
         (t : ℕ) (s : State Process) (L : Lent s) (x : Item) where
       abbrev next-state : Item → State Process
       next-state x = stepped M s x .state
@@ -426,25 +521,26 @@ module _ (n : ℕ) (z : 0 < n) (eight : n ≤ 8) (o : Order) (P : Permutes n o) 
       next-lent x = lent-moved s L (moves s L x)
 
       -- an item that is no turn of process d
-      others-follow : (q : Procedure) → Does o n q t (owner s d) → isIdle (owner s d .task) ≡ false →
+      others-follow : (q : Procedure) → Lasts q (suc k) → Does o n q t (owner s d) → isIdle (owner s d .task) ≡ false →
           isTurn d x (refusal M s x) ≡ false →
           (owner (next-state x) d ≡ owner s d) × Rest q t (next-state x)
-      others-follow q D busy h =
+      others-follow q l D busy h =
           let stay = kept s L d m busy (moves s L x) h in
-          (stay, rest q t (next-state x) (next-lent x) (subst (λ p. Does o n q t p) (sym stay) D))
+          (stay, rest q t (next-state x) (next-lent x) (lasts-fewer q (suc k) k (omega arith) l) (subst (λ p. Does o n q t p) (sym stay) D))
 
-      follows : (q : Procedure) → Does o n q t (owner s d) → Follows o n d Rest q t s x
-      unfolding Does
-      follows (read v j next) D =
+      follows : (q : Procedure) → Lasts q (suc k) → Does o n q t (owner s d) → Follows o n d Rest q t s x
+      unfolding Does Lasts
+      follows (read v j next) l D =
           let p = owner s d in
           let q = next (s .day .event + 1) (trimmed n (getD (s .table) j noProcess .register)) in
           by-turn d x (refusal M s x)
           (λ page e a.
           subst (λ x. After o n (λ p. Rest q (suc t) (next-state x)) (suc t) p (pageLent x) (ownOf o d (stepped M s x)) q) (sym e)
           (own-reads s L v j next t page D (subst (λ x. refusal M s x ≡ none) e a) (Rest q (suc t) (next-state (turnOf d page)))
-          (rest q (suc t) (next-state (turnOf d page)) (next-lent (turnOf d page)))))
-          (others-follow (read v j next) D (reads-busy o n (p .task) j (D .0 .2)))
-      follows (write v w) D =
+          (rest q (suc t) (next-state (turnOf d page)) (next-lent (turnOf d page))
+          (l (s .day .event + 1) (trimmed n (getD (s .table) j noProcess .register))))))
+          (others-follow (read v j next) l D (reads-busy o n (p .task) j (D .0 .2)))
+      follows (write v w) l D =
           let p = owner s d in
           let wrote = D .1 (s .day .event + 1) (readBy s L d) in
           by-turn d x (refusal M s x)
@@ -452,17 +548,17 @@ module _ (n : ℕ) (z : 0 < n) (eight : n ≤ 8) (o : Order) (P : Permutes n o) 
           subst (λ x. Wrote o n w (suc t) p (pageLent x) (ownOf o d (stepped M s x))) (sym e)
           (subst (λ x. Wrote o n w (suc t) p page x) (sym (own-turn s L d page m (subst (λ x. refusal M s x ≡ none) e a)))
           (wrote page)))
-          (others-follow (write v w) D (writes-busy o n (s .day .event + 1) (readBy s L d) [] p (suc t) (wrote [] .0)))
-      follows (return from at words) D = tt
-      follows spent D = tt
+          (others-follow (write v w) l D (writes-busy o n (s .day .event + 1) (readBy s L d) [] p (suc t) (wrote [] .0)))
+      follows (return from at words) l D = tt
+      follows spent l D = tt
 
-    performs : (xs : List Item) (q : Procedure) (t : ℕ) (s : State Process) → Lent s → Does o n q t (owner s d) →
-        Performs o n d q t s xs
+    performs : (xs : List Item) (q : Procedure) (t : ℕ) (s : State Process) → Lent s → Lasts q (length xs) →
+        Does o n q t (owner s d) → Performs o n d q t s xs
     unfolding Performs
-    performs [] q t s L D = does-stands q t (owner s d) D
-    performs (x ∷ xs) q t s L D = (
-      does-stands q t (owner s d) D,
-      follows (λ q t s. Performs o n d q t s xs) (performs xs) t s L x q D,
+    performs [] q t s L l D = does-stands q t (owner s d) 0 l D
+    performs (x ∷ xs) q t s L l D = (
+      does-stands q t (owner s d) (suc (length xs)) l D,
+      follows (λ q t s. Performs o n d q t s xs) (length xs) (performs xs) t s L x q l D,
     )
 
   -- ---- from a call on
@@ -479,23 +575,23 @@ module _ (n : ℕ) (z : 0 < n) (eight : n ≤ 8) (o : Order) (P : Permutes n o) 
     abbrev own-seq : ℕ
     own-seq = owner s d .register .seq
 
-    scan-performs : (items : List Item) → refusal M s (scanCall d) ≡ none →
+    scan-performs : (items : List Item) → length items < k → refusal M s (scanCall d) ≡ none →
         Performs o n d (scanProcedure o n k) 0 (stepped M s (scanCall d) .state) items
     unfolding refusal accept
-    scan-performs items a =
+    scan-performs items few a =
         let m = call-idle s L d a .0 in
         performs d m items (scanProcedure o n k) 0 (stepped M s (scanCall d) .state)
-        (lent-moved s L (moves s L (scanCall d)))
+        (lent-moved s L (moves s L (scanCall d))) (scan-lasts o n k (length items) z few)
         (subst (λ p. Does o n (scanProcedure o n k) 0 p) (sym (after-call (scanCall d) scan a m refl))
         (turns-are-figure-3 n o P z eight (owner s d) (L .whole (d - 1) (omega arith) .sized) k .0))
 
-    update-performs : (items : List Item) (w : ℕ) → refusal M s (updateCall d w) ≡ none →
+    update-performs : (items : List Item) → length items < k → (w : ℕ) → refusal M s (updateCall d w) ≡ none →
         Performs o n d (updateProcedure o n k w own-seq) 0 (stepped M s (updateCall d w) .state) items
     unfolding refusal accept
-    update-performs items w a =
+    update-performs items few w a =
         let m = call-idle s L d a .0 in
         performs d m items (updateProcedure o n k w own-seq) 0 (stepped M s (updateCall d w) .state)
-        (lent-moved s L (moves s L (updateCall d w)))
+        (lent-moved s L (moves s L (updateCall d w))) (update-lasts o n k w own-seq (length items) z few)
         (subst (λ p. Does o n (updateProcedure o n k w own-seq) 0 p) (sym (after-call (updateCall d w) (update d w) a m refl))
         (turns-are-figure-3 n o P z eight (owner s d) (L .whole (d - 1) (omega arith) .sized) k .1 w))
 
@@ -524,14 +620,15 @@ module _ (n : ℕ) (z : 0 < n) (eight : n ≤ 8) (o : Order) (P : Permutes n o) 
       }
 
 -- from every accepted call on, whatever came before and whatever comes between, the accepted turns of a process are Figure 3's
--- procedure: every n from 1 to 8, every order of reading, any number k of rounds
-pub days-are-figure-3-ordered : (n : ℕ) (o : Order) → Permutes n o → 0 < n → n ≤ 8 → (before items : List Item) (d k : ℕ) →
-    CallsPerform o n before items d k
-days-are-figure-3-ordered n o P z eight before items d k =
+-- procedure: every n from 1 to 8, every order of reading, any number k of rounds that is enough for the items
+pub days-are-figure-3-ordered : (n : ℕ) (o : Order) → Permutes n o → 0 < n → n ≤ 8 →
+    (before items : List Item) (d k : ℕ) → length items < k → CallsPerform o n before items d k
+days-are-figure-3-ordered n o P z eight before items d k few =
     let s = stateAfter o (openedFor n) before in
     let L = lent-after n z eight o P before (openedFor n) (lent-opened n z eight o P) in
-    (scan-performs n z eight o P s L d k items, update-performs n z eight o P s L d k items)
+    (scan-performs n z eight o P s L d k items few, update-performs n z eight o P s L d k items few)
 
 -- the same where registers are read in the order of the processes
-pub days-are-figure-3 : (n : ℕ) → 0 < n → n ≤ 8 → (before items : List Item) (d k : ℕ) → CallsPerform ascending n before items d k
+pub days-are-figure-3 : (n : ℕ) → 0 < n → n ≤ 8 → (before items : List Item) (d k : ℕ) → length items < k →
+    CallsPerform ascending n before items d k
 days-are-figure-3 n = days-are-figure-3-ordered n ascending (ascending-permutes n)

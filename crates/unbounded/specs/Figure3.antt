@@ -45,7 +45,7 @@ pub record Variables : Type 0 where
 
 -- what a procedure does next: read register j and go on with that turn's number and what the read returns; write its own register
 -- and return; return the words, with the process that lent them, from 1, or 0, and their instant; `spent` is where a given number
--- of rounds of "while true" ends
+-- of rounds of "while true" ends, so that no turn is there if they are enough
 pub data Procedure : Type 0 where
   read : Variables → (j : ℕ) → ((now : ℕ) → Register → Procedure) → Procedure
   write : Variables → Register → Procedure
@@ -129,7 +129,7 @@ module _ (o : Order) (n : ℕ) where
   Standing (read v j next) t p = Remembers v p × (turnsOf (p .task) ≡ t) × (reads o n (p .task) ≡ some j)
   Standing (write v w) t p = Remembers v p × (turnsOf (p .task) ≡ t) × (reads o n (p .task) ≡ none)
   Standing (return lender at words) t p = Unit {0}
-  Standing spent t p = Unit {0}
+  Standing spent t p = ⊥
 
   -- a turn of p, its t-th, was lent a page list and gave x, and the procedure goes on as q: only where q returns is it answered,
   -- with what q returns, and leaves p idle with nothing collected; N is what else then holds of the record
@@ -140,7 +140,7 @@ module _ (o : Order) (n : ℕ) where
       (x .answer ≡ Read) × (x .page ≡ page) × (x .state .register ≡ p .register) × N (x .state)
   After N t p page x (return lender at words) =
       (x .answer ≡ Page lender at t) × (x .page ≡ over n words page) × (x .state ≡ begin n Idle p)
-  After N t p page x spent = Unit {0}
+  After N t p page x spent = N (x .state)
 
   -- the writing turn of p, its t-th, was lent a page list and gave x: it wrote w, and left p idle with nothing collected
   abbrev pub Wrote : Register → (t : ℕ) → Process → List ℕ → Result Process → Type 0
