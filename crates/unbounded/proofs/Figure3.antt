@@ -403,7 +403,7 @@ module _ (n : ℕ) (o : Order) (P : Permutes n o) (z : 0 < n) (eight : n ≤ 8) 
         (λ e. ap (λ u. length (u .view)) (assigned-same y j (o .register q) (trimmed n r) e) ∙ view-full r full)
         (λ e. ap (λ u. length (u .view)) (assigned-other y j (o .register q) (trimmed n r) e) ∙ A .wide j l)
 
-    -- the number of the turn that ended the first collect
+    -- a read that does not end the first collect keeps the number of the turn that did
     ended-waits : (pos : ℕ) → pos + 1 ≢ n → e ≡ endAfter n pos now (p .«first_end»)
     ended-waits pos h = A .remembers .ended ∙ sym (end-waits n pos now (p .«first_end») h)
 

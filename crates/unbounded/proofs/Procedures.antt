@@ -325,7 +325,8 @@ scan-lasts o n k m z l = for-lasts o (λ v. return) (λ v from at words m. tt) n
 update-lasts : (o : Order) (n k w s m : ℕ) → 0 < n → m < k → Lasts (updateProcedure o n k w s) m
 unfolding Lasts
 update-lasts o n k w s m z l =
-    for-lasts o (λ v from at words. write v (record { word = w; seq = s + 1; view = words; at = at })) (λ v from at words m. tt) n k m z l
+    for-lasts o (λ v from at words. write v (record { word = w; seq = s + 1; view = words; at = at })) (λ v from at words m. tt)
+    n k m z l
 
 -- ---- a day
 
@@ -526,7 +527,8 @@ module _ (n : ℕ) (z : 0 < n) (eight : n ≤ 8) (o : Order) (P : Permutes n o) 
           (owner (next-state x) d ≡ owner s d) × Rest q t (next-state x)
       others-follow q l D busy h =
           let stay = kept s L d m busy (moves s L x) h in
-          (stay, rest q t (next-state x) (next-lent x) (lasts-fewer q (suc k) k (omega arith) l) (subst (λ p. Does o n q t p) (sym stay) D))
+          let lasts = lasts-fewer q (suc k) k (omega arith) l in
+          (stay, rest q t (next-state x) (next-lent x) lasts (subst (λ p. Does o n q t p) (sym stay) D))
 
       follows : (q : Procedure) → Lasts q (suc k) → Does o n q t (owner s d) → Follows o n d Rest q t s x
       unfolding Does Lasts
