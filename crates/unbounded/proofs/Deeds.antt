@@ -20,12 +20,12 @@ use Rattle.unbounded.specs.declared.Register.{Register}
 use Rattle.unbounded.specs.declared.Process.{Process}
 use Rattle.unbounded.specs.declared.Task.{Task}
 use Rattle.unbounded.specs.declared.Task.the-variants.{Idle, Scan, Update, Ready}
-use Rattle.unbounded.specs.Registers.{value, Order, cleared}
+use Rattle.unbounded.specs.Registers.{value, Order, cleared, trimmed}
 use Rattle.unbounded.specs.Processes.{taskOf, emptied, begin}
 use Rattle.unbounded.specs.Turns.{position, placeAt, reads, firstAfter, secondAfter, endAfter, decision, marksAfter}
 use Rattle.unbounded.specs.Turns.{afterRead, foundBy, scanTurn, updateTurn, written, turned, turnedBy}
 use Rattle.unbounded.specs.Days.{figure3}
-use Rattle.unbounded.proofs.Places.{trimmed, trimmed-laid}
+use Rattle.unbounded.proofs.Places.{trimmed-laid}
 use Rattle.unbounded.proofs.Scans.{Permutes}
 use Rattle.unbounded.proofs.Reading.{place-below, sized-emptied, sized-begin, sized-read}
 use Rattle.unbounded.proofs.Scanning.{Scanned, scanning-starts, scanning-reads, scanning-patient, position-is}

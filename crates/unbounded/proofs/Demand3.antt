@@ -96,7 +96,7 @@ pub demand3-ordered : (n : ℕ) (o : Order) → Permutes n o → 0 < n → n ≤
 unfolding Days.openedFor
 demand3-ordered n o P z eight items = machine.demand3 (figure3 o) n (λ H. works n o H P z eight) z eight items
 
-ascending-permutes : (n : ℕ) → Permutes n ascending
+pub ascending-permutes : (n : ℕ) → Permutes n ascending
 ascending-permutes n =
     record {
       register-within = λ p l. l;

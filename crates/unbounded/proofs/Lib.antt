@@ -11,3 +11,4 @@ pub mod Demand3
 pub mod MarkedDays
 pub mod RefusedDays
 pub mod Figure3
+pub mod Procedures

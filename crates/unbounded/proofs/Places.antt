@@ -7,11 +7,7 @@ use lib.ListN.{length, getD, take, length-set}
 use lib.Seq.{getD-set-same, getD-set-other}
 use Rattle.snapshot.proofs.Lists.{take-over, length-each, getD-each}
 use Rattle.unbounded.specs.declared.Register.{Register}
-use Rattle.unbounded.specs.Registers.{noRegister, value, Order, collectedAt, pageOf, laid, readInto}
-
--- a register with the first n words of its view
-abbrev pub trimmed : ℕ → Register → Register
-trimmed n r = record { word = r .word; seq = r .seq; view = take n (r .view); at = r .at }
+use Rattle.unbounded.specs.Registers.{noRegister, value, trimmed, Order, collectedAt, pageOf, laid, readInto}
 
 pub trimmed-laid : (n : ℕ) (r old : Register) → length (take n (r .view)) ≡ n → trimmed n (laid n r old) ≡ trimmed n r
 unfolding laid

@@ -15,10 +15,9 @@ use Rattle.snapshot.proofs.Traces.{pageIn, History}
 use Rattle.snapshot.proofs.Attempts.{Attempts, attempts-start, attempts-position, attempts-wait, attempts-go, attempts-patient}
 use Rattle.snapshot.proofs.DoubleCollect.{Ended, double-collect-ends}
 use Rattle.unbounded.specs.declared.Register.{Register}
-use Rattle.unbounded.specs.Registers.{Order, pageOf, differs}
+use Rattle.unbounded.specs.Registers.{Order, pageOf, differs, trimmed}
 use Rattle.unbounded.specs.Turns.{position, placeAt, firstAfter, secondAfter, endAfter, decision, marksAfter, found}
 use Rattle.unbounded.specs.Days.{mostReads}
-use Rattle.unbounded.proofs.Places.{trimmed}
 use Rattle.unbounded.proofs.Reading.{decision-waits, decision-falls}
 use Rattle.unbounded.proofs.Scans.{Permutes, trace, Collecting, Complete, Reads}
 use Rattle.unbounded.proofs.Scans.{collecting-starts, collecting-waits, collecting-reads, collected, unwritten, stirred}

@@ -11,9 +11,9 @@ use lib.ListN.{length, getD, take}
 use Rattle.snapshot.proofs.Traces.{Trace, History}
 use Rattle.snapshot.proofs.Collects.{Held, held-later, held-same, Collected}
 use Rattle.unbounded.specs.declared.Register.{Register}
-use Rattle.unbounded.specs.Registers.{noRegister, value, Order, collectedAt, differs, readInto}
+use Rattle.unbounded.specs.Registers.{noRegister, value, Order, collectedAt, differs, readInto, trimmed}
 use Rattle.unbounded.specs.Turns.{placeAt, firstAfter, secondAfter, endAfter}
-use Rattle.unbounded.proofs.Places.{trimmed, read-into-same, read-into-other}
+use Rattle.unbounded.proofs.Places.{read-into-same, read-into-other}
 use Rattle.unbounded.proofs.Moved.{differs-false, differs-true}
 use Rattle.unbounded.proofs.Reading.{place-first, place-second, end-reads, end-waits}
 use Rattle.unbounded.proofs.Reading.{first-reads, first-waits, second-reads, second-waits}

@@ -17,9 +17,8 @@ use Rattle.unbounded.specs.declared.Register.{Register}
 use Rattle.unbounded.specs.declared.Process.{Process}
 use Rattle.unbounded.specs.declared.Task.{Task}
 use Rattle.unbounded.specs.declared.Task.the-variants.{Idle, Scan, Update, Ready}
-use Rattle.unbounded.specs.Registers.{Order}
+use Rattle.unbounded.specs.Registers.{Order, trimmed}
 use Rattle.unbounded.specs.Days.{mostReads, figure3}
-use Rattle.unbounded.proofs.Places.{trimmed}
 use Rattle.unbounded.proofs.Reading.{Sized}
 use Rattle.unbounded.proofs.Scans.{trace}
 use Rattle.unbounded.proofs.Scanning.{Scanning, scanning-waits}

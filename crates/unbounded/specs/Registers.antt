@@ -25,6 +25,10 @@ value r = r .word
 abbrev pub viewed : ℕ → Register → List ℕ
 viewed n r = take n (r .view)
 
+-- a register with the first n words of its view
+abbrev pub trimmed : ℕ → Register → Register
+trimmed n r = record { word = r .word; seq = r .seq; view = viewed n r; at = r .at }
+
 -- ---- places
 
 -- register r laid where old stood: "those past n are touched only by an opening", so the words past n of old's view stay
