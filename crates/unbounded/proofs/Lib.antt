@@ -8,5 +8,7 @@ pub mod Scanning
 pub mod Ties
 pub mod Deeds
 pub mod Demand3
+pub mod Emptied
+pub mod PlacesPast
 pub mod MarkedDays
 pub mod Figure3

@@ -84,11 +84,11 @@ abbrev dayF : ℕ → MarkedDay
 dayF k = record { count = k; items = openFor k ∷ []; expected = refused 1 ∷ [] }
 
 -- case G, for n processes
-abbrev dayG : ℕ → MarkedDay
+abbrev pub dayG : ℕ → MarkedDay
 dayG n = record { count = n; items = openFor n ∷ turns n 1 0 ++ turns n 1 (n + 1); expected = opened ∷ refused 2 ∷ refused 2 ∷ [] }
 
 -- case H, for n processes
-abbrev dayH : ℕ → MarkedDay
+abbrev pub dayH : ℕ → MarkedDay
 dayH n =
     record {
       count = n;
