@@ -10,5 +10,6 @@ pub mod Deeds
 pub mod Demand3
 pub mod Emptied
 pub mod PlacesPast
+pub mod MarkedCounts
 pub mod MarkedDays
 pub mod Figure3
