@@ -1,5 +1,5 @@
--- One item on any day, for every machine: the step of the code's contracts is that of demand 3, a refusal changes nothing, and what
--- calls and turns keep of a record holds on every day grown from an opening.
+-- One item on any day, for every machine: the step of the code's contracts is that of demand 3, a refusal changes nothing, and
+-- what calls and turns keep of a record holds on every day grown from an opening.
 use Prim.Native.Nat.{ℕ, _+_, _-_, _≤_, _<_}
 use native.Mathlib.Omega.{arith}
 use native.Mathlib.Decide.{ℕ-discrete}
@@ -95,11 +95,11 @@ abbrev pub after : (M : Machine) → State (M .Process) → List Item → State 
 after M s [] = s
 after M s (x ∷ xs) = after M (stepped M s x .state) xs
 
--- Kept: what holds of the zero record, and what calls and turns of a day for n processes keep
+-- Kept: what holds of the zero record, and what calls and turns of a day for n processes keep, if the record read has it too
 module _ (M : Machine) (n : ℕ) (z : 0 < n) (Kept : M .Process → Type 0)
     (calls : (j : Job) (p : M .Process) → n ≤ 8 → Kept p → Kept (M .called n j p))
-    (turns : (i now : ℕ) (other : M .Process) (page : List ℕ) (p : M .Process) → n ≤ 8 → M .isIdle p ≡ false → Kept p →
-    Kept (M .turned n i now other page p .state)) where
+    (turns : (i now : ℕ) (other : M .Process) (page : List ℕ) (p : M .Process) → n ≤ 8 → M .isIdle p ≡ false →
+    ((j : ℕ) → M .reads n p ≡ some j → j < n → Kept other) → Kept p → Kept (M .turned n i now other page p .state)) where
   record Holding (s : State (M .Process)) : Type 0 where
     count : s .day .count ≡ n
     kept : (i : ℕ) → i < n → Kept (getD (s .table) i (M .noProcess))
@@ -139,8 +139,8 @@ module _ (M : Machine) (n : ℕ) (z : 0 < n) (Kept : M .Process → Type 0)
       let p = processOf M s d in
       advance-holds s d (turnBy M s d page .state) (omega arith) h
       (subst (λ k. Kept (M .turned k (d - 1) (s .day .event + 1) (readFrom M (s .table) (M .reads k p)) page p .state)) (sym c)
-      (turns (d - 1) (s .day .event + 1) (readFrom M (s .table) (M .reads n p)) page p (subst (λ k. k ≤ 8) c (a .small)) (a .right)
-      (h .kept (d - 1) (omega arith))))
+      (turns (d - 1) (s .day .event + 1) (readFrom M (s .table) (M .reads n p)) page p (subst (λ k. k ≤ 8) c (a .small))
+      (a .right) (λ j q b. subst (λ k. Kept (readFrom M (s .table) k)) (sym q) (h .kept j b)) (h .kept (d - 1) (omega arith))))
 
   accept-holds : (s : State (M .Process)) (x : Item) → refusal M s x ≡ none → Holding s → Holding (accept M s x .state)
   unfolding refusal accept
@@ -178,4 +178,4 @@ module _ (M : Machine) (n : ℕ) (z : 0 < n) (Kept : M .Process → Type 0)
 
 -- a day opened for n stays one for n
 pub grown-count : (M : Machine) (n : ℕ) → 0 < n → (xs : List Item) → after M (openedFor M n) xs .day .count ≡ n
-grown-count M n z xs = grown-count-kept M n z (λ p. Unit {0}) (λ j p l k. tt) (λ i now other page p l b k. tt) tt xs
+grown-count M n z xs = grown-count-kept M n z (λ p. Unit {0}) (λ j p l k. tt) (λ i now other page p l b r k. tt) tt xs

@@ -202,7 +202,8 @@ module _ (o : Order) (s : State Process) (d : ℕ) where
       let l = a .size in
       let m = a .among in
       subst (NothingCollected n) (sym (left-is (turnBy (figure3 o) s d page .state) (omega arith)))
-      (turned-nothing o n (s .day .event + 1) (readFrom (figure3 o) (s .table) (reads o n (p .task)) .register) page p (a .small) S h)
+      (turned-nothing o n (s .day .event + 1) (readFrom (figure3 o) (s .table) (reads o n (p .task)) .register) page p
+      (a .small) S h)
 
 -- right after an accepted call, and right after an accepted turn that answers a page or a written entry, its process has nothing
 -- collected; its arrays have their eight places, as those of every lent record do
@@ -223,7 +224,7 @@ unfolding Days.openedFor
 idle-has-nothing o n z eight xs i b =
     grown-keeps (figure3 o) n z (λ p. Sized p × (isIdle (p .task) ≡ true → NothingCollected n p))
     (λ j p l k. (sized-begin n (taskOf j 0) p l (k .0), λ h. begin-nothing n l (taskOf j 0) p (job-keeps-none n eight j) (k .0)))
-    (λ i now other page p l busy k. (
+    (λ i now other page p l busy read k. (
       turned-sized o n now (other .register) page p l (k .0),
       λ h. turned-nothing o n now (other .register) page p l (k .0) (turned-idle o n now (other .register) page p l (k .0) busy h),
     ))

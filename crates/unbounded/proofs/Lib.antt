@@ -9,6 +9,7 @@ pub mod Ties
 pub mod Deeds
 pub mod Demand3
 pub mod Emptied
+pub mod Whole
 pub mod PlacesPast
 pub mod MarkedCounts
 pub mod MarkedDays

@@ -14,7 +14,8 @@ use borrow.Author.Tests.{eq-eqb, ne-eqb, lt-ltb, le-ltb, lt-leb}
 use Rattle.snapshot.specs.Lists.{someOf}
 use Rattle.snapshot.specs.Demand.{admit, step}
 use Rattle.snapshot.specs.Days as Days
-use Rattle.snapshot.specs.Days.{State, Item, openFor, scanCall, turnOf, outside, isFull, refusal, advance, calledBy, readFrom, turnBy, accept}
+use Rattle.snapshot.specs.Days.{State, Item, openFor, scanCall, turnOf}
+use Rattle.snapshot.specs.Days.{outside, isFull, refusal, advance, calledBy, readFrom, turnBy, accept}
 use Rattle.snapshot.specs.Replies.{Reply, refused, opened, called, read, replyOf, replies}
 use Rattle.snapshot.specs.declared.Answer.the-variants.{Read}
 use Rattle.snapshot.specs.declared.Refusal.{Refusal}

@@ -1,38 +1,38 @@
 -- "A collect has eight rows and a view eight words; those past n are touched only by an opening", and of a page list "its first n
 -- are written by a page answer; later words .. remain": an accepted call or turn leaves them all.
-use Prim.Native.Nat.{ℕ, zero, suc, _+_, _*_, _-_, _≤_, _<_}
+use Prim.Native.Nat.{ℕ, zero, suc, _+_, _-_, _≤_, _<_}
 use native.Mathlib.Omega.{arith}
 use native.Mathlib.Decide.{ℕ-discrete}
 use mathlib.Core.Path.{_≡_, refl, sym, ap₂, subst}
 use mathlib.Core.Logic.{_≢_, by-cases}
 use mathlib.Core.Bool.{Bool, true, false, cond}
 use mathlib.Core.List.{List, [], _∷_, map}
-use mathlib.Core.Option.{Option, none, some, Option·none-ne-some, Option·some-injective}
-use lib.ListN.{length, getD, set, take, drop, replicate, length-append, length-map}
-use lib.Seq.{getD-set-same, getD-set-other, length-take-le, drop-at, drop-set-lt, map-set-same}
-use lib.Dec.{eqb, ltb}
+use mathlib.Core.Option.{Option, none, some}
+use lib.ListN.{length, getD, set, drop, replicate, length-map}
+use lib.Seq.{getD-set-same, getD-set-other, drop-set-lt, map-set-same}
+use lib.Dec.{ltb}
 use Rattle.snapshot.specs.Lists.{over}
 use Rattle.snapshot.specs.Refusals.{firstCause}
-use Rattle.snapshot.specs.Marks.{lends, Found}
-use Rattle.snapshot.specs.Verdict.{Verdict, clean, lent, again, verdict}
+use Rattle.snapshot.specs.Marks.{Found}
 use Rattle.snapshot.specs.Tally.{Job, scan, update, opening}
 use Rattle.snapshot.specs.Demand.{Result}
+use Rattle.snapshot.specs.Days as Days
 use Rattle.snapshot.specs.Days.{State, Item, openFor, updateCall, scanCall, turnOf, sees, pageLent, refusal}
 use Rattle.snapshot.specs.Days.{callCauses, turnCauses, advance, calledBy, readFrom, turnBy, accept}
-use Rattle.snapshot.proofs.DoubleCollect.{Ends, lender, verdict-ends}
-use Rattle.snapshot.proofs.Stepped.{admitted-call, admitted-turn}
+use Rattle.snapshot.proofs.Lists.{drop-over}
+use Rattle.snapshot.proofs.Stepped.{admitted-call, admitted-turn, admitted-opening, after, grown-count}
 use Rattle.unbounded.specs.declared.Register.{Register}
 use Rattle.unbounded.specs.declared.Process.{Process}
 use Rattle.unbounded.specs.declared.Task.{Task}
 use Rattle.unbounded.specs.declared.Task.the-variants.{Idle, Scan, Update, Ready}
-use Rattle.unbounded.specs.Registers.{noRegister, zeroRegister, laid, readInto, cleared, Order, collectedAt, differs}
+use Rattle.unbounded.specs.Registers.{noRegister, zeroRegister, laid, readInto, cleared, Order}
 use Rattle.unbounded.specs.Processes.{taskOf, noProcess, emptied, begin}
-use Rattle.unbounded.specs.Turns.{position, placeAt, reads, firstAfter, secondAfter, endAfter, decision, found}
+use Rattle.unbounded.specs.Turns.{position, placeAt, reads, firstAfter, secondAfter}
 use Rattle.unbounded.specs.Turns.{afterRead, foundBy, scanTurn, updateTurn, written, turned, turnedBy}
-use Rattle.unbounded.specs.Days.{figure3}
-use Rattle.unbounded.proofs.Places.{page-of-long, read-into-other}
+use Rattle.unbounded.specs.Days.{figure3, openedFor}
 use Rattle.unbounded.proofs.Reading.{position-low, place-below}
 use Rattle.unbounded.proofs.Scans.{Permutes}
+use Rattle.unbounded.proofs.Whole.{Whole, Full, found-by-full, grown-whole}
 
 -- the words past n of each view
 abbrev pub wordsPast : ℕ → List Register → List (List ℕ)
@@ -48,22 +48,10 @@ pub record SamePast (n : ℕ) (p q : Process) : Type 0 where
   pub first-views : wordsPast n (q .first) ≡ wordsPast n (p .first)
   pub second-views : wordsPast n (q .second) ≡ wordsPast n (p .second)
 
--- "A collect has eight rows and a view eight words", as every lent record has
-pub record Whole (p : Process) : Type 0 where
-  pub register : length (p .register .view) ≡ 8
-  pub view : length (p .view) ≡ 8
-  pub firsts : length (p .first) ≡ 8
-  pub seconds : length (p .second) ≡ 8
-  pub first-views : (i : ℕ) → i < 8 → length (getD (p .first) i noRegister .view) ≡ 8
-  pub second-views : (i : ℕ) → i < 8 → length (getD (p .second) i noRegister .view) ≡ 8
-
 same-past : (n : ℕ) (p : Process) → SamePast n p p
 same-past n p = record { register = refl; view = refl; firsts = refl; seconds = refl; first-views = refl; second-views = refl }
 
 -- ---- lists
-
-drop-over : {A : Type 0} (n : ℕ) (a b : List A) → n ≤ length a → drop n (over n a b) ≡ drop n b
-drop-over n a b l = drop-at (take n a) (drop n b) n (length-take-le n a l)
 
 -- the first places changed by g, which leaves what f shows of them
 map-over-map : {A B : Type 0} (f : A → B) (g : A → A) → ((a : A) → f (g a) ≡ f a) → (n : ℕ) (l : List A) →
@@ -136,61 +124,6 @@ module _ (n : ℕ) where
         go true = refl
         go false = read-views r l (placeAt n pos) rs
 
-    -- a collected view has n words still
-    read-long : (k : ℕ) → k < length rs → n ≤ length (getD rs k noRegister .view) →
-        n ≤ length (getD (readInto n r (placeAt n pos) rs) k noRegister .view)
-    unfolding readInto laid
-    read-long k b m =
-        by-cases (ℕ-discrete k (placeAt n pos))
-        (λ q.
-        let old = getD rs (placeAt n pos) noRegister in
-        let same = getD-set-same rs (placeAt n pos) (laid n r old) noRegister (subst (λ i. i < length rs) q b) in
-        subst (λ i. n ≤ length (getD (set rs (placeAt n pos) (laid n r old)) i noRegister .view)) (sym q)
-        (subst (λ x. n ≤ length (x .view)) (sym same)
-        (let s = length-append (take n (r .view)) (drop n (old .view)) in
-        let t = length-take-le n (r .view) l in
-        omega arith)))
-        (λ q. subst (λ x. n ≤ length (x .view)) (sym (read-into-other n r (placeAt n pos) rs k q)) m)
-
-    second-long : (k : ℕ) → k < length rs → n ≤ length (getD rs k noRegister .view) →
-        n ≤ length (getD (secondAfter n pos r rs) k noRegister .view)
-    unfolding secondAfter
-    second-long k b m = go (ltb pos n)
-      where
-        go : (c : Bool) → n ≤ length (getD (cond c rs (readInto n r (placeAt n pos) rs)) k noRegister .view)
-        go true = m
-        go false = read-long k b m
-
--- ---- a page that was found has n words
-
-abbrev Full : ℕ → Option (Found ℕ) → Type 0
-Full n none = Unit {0}
-Full n (some f) = n ≤ length (f .words)
-
-lender-below : (n : ℕ) (moved lends : ℕ → Bool) {j : ℕ} → Ends n moved lends (lent j) → j < n
-lender-below n moved lends (lender j l m h) = l
-
-module _ (o : Order) (n : ℕ) where
-  decision-below : (p : ℕ) (a b : List Register) (ms : List Bool) (j : ℕ) → decision o n p a b ms ≡ some (lent j) → j < n
-  unfolding decision
-  decision-below p a b ms j = go (eqb (p + 1) (2 * n))
-    where
-      go : (c : Bool) → cond c (some (verdict n (differs o a b) (lends (differs o a b) ms))) none ≡ some (lent j) → j < n
-      go true q =
-          lender-below n (differs o a b) (lends (differs o a b) ms)
-          (subst (Ends n (differs o a b) (lends (differs o a b) ms))
-          (Option·some-injective (verdict n (differs o a b) (lends (differs o a b) ms)) (lent j) q)
-          (verdict-ends n (differs o a b) (lends (differs o a b) ms)))
-      go false q = absurd (Option·none-ne-some (lent j) q)
-
-  found-full : (b : List Register) (end : ℕ) → ((j : ℕ) → j < n → n ≤ length (collectedAt o b j .view)) →
-      (v : Option Verdict) → ((j : ℕ) → v ≡ some (lent j) → j < n) → Full n (found o n b end v)
-  found-full b end long none h = tt
-  found-full b end long (some clean) h = omega (arith, page-of-long o n b)
-  found-full b end long (some (lent j)) h =
-      omega (arith, length-take-le n (collectedAt o b j .view) (long j (h j refl)))
-  found-full b end long (some again) h = tt
-
 -- ---- records
 
 module _ (n : ℕ) (eight : n ≤ 8) (p : Process) (w : Whole p) where
@@ -199,8 +132,8 @@ module _ (n : ℕ) (eight : n ≤ 8) (p : Process) (w : Whole p) where
       record {
         register = q;
         view = drop-over n (replicate 8 0) (p .view) (omega arith);
-        firsts = cleared-past n eight (p .first) (omega (arith, w .firsts));
-        seconds = cleared-past n eight (p .second) (omega (arith, w .seconds));
+        firsts = cleared-past n eight (p .first) (omega (arith, w .first .places));
+        seconds = cleared-past n eight (p .second) (omega (arith, w .second .places));
         first-views = cleared-views n eight (p .first);
         second-views = cleared-views n eight (p .second);
       }
@@ -216,7 +149,7 @@ module _ (n : ℕ) (eight : n ≤ 8) (p : Process) (w : Whole p) where
       (omega (arith, w .view))
 
   -- a turn that reads register r
-  module _ (o : Order) (P : Permutes n o) (z : 0 < n) (now : ℕ) (r : Register) (l : n ≤ length (r .view)) (page : List ℕ) where
+  module _ (o : Order) (z : 0 < n) (now : ℕ) (r : Register) (l : n ≤ length (r .view)) (page : List ℕ) where
     abbrev Stays : Result Process → Type 0
     Stays x = SamePast n p (x .state) × (drop n (x .page) ≡ drop n page)
 
@@ -234,20 +167,6 @@ module _ (n : ℕ) (eight : n ≤ 8) (p : Process) (w : Whole p) where
           first-views = first-words n pos r low l (p .first);
           second-views = second-words n pos r low l (p .second);
         }
-
-    found-by-full : (t : ℕ) → Full n (foundBy o n now (position n t) r p)
-    unfolding foundBy
-    found-by-full t =
-        let pos = position n t in
-        let low = place-below n pos (position-low n t z) in
-        let a = firstAfter n pos r (p .first) in
-        let b = secondAfter n pos r (p .second) in
-        found-full o n b (endAfter n pos now (p .«first_end»))
-        (λ j m.
-        let m′ = P .place-within j m in
-        second-long n pos r low l (p .second) (o .place j) (omega (arith, w .seconds))
-        (omega (arith, w .second-views (o .place j) (omega arith))))
-        (decision o n pos a b (p .moved)) (decision-below o n pos a b (p .moved))
 
     scan-past : (t : ℕ) (f : Option (Found ℕ)) → Full n f → Stays (scanTurn o n now r page p t f)
     scan-past t none h = (after-read-past t (Scan (t + 1)) (p .view) refl, refl)
@@ -308,12 +227,12 @@ module _ (o : Order) (s : State Process) (P : Permutes (s .day .count) o)
       go Idle = (same-past n (at i), refl)
       go (Scan t) =
           let r = at (o .register (placeAt n (position n t))) .register in
-          scan-past n eight (at i) (whole i b) o P z now r (read-long-view t) page t (foundBy o n now (position n t) r (at i))
-          (found-by-full n eight (at i) (whole i b) o P z now r (read-long-view t) page t)
+          scan-past n eight (at i) (whole i b) o z now r (read-long-view t) page t (foundBy o n now (position n t) r (at i))
+          (found-by-full n eight (at i) (whole i b) o P now r (read-long-view t) (position n t))
       go (Update x t) =
           let r = at (o .register (placeAt n (position n t))) .register in
-          update-past n eight (at i) (whole i b) o P z now r (read-long-view t) page x t (foundBy o n now (position n t) r (at i))
-          (found-by-full n eight (at i) (whole i b) o P z now r (read-long-view t) page t)
+          update-past n eight (at i) (whole i b) o z now r (read-long-view t) page x t (foundBy o n now (position n t) r (at i))
+          (found-by-full n eight (at i) (whole i b) o P now r (read-long-view t) (position n t))
       go (Ready x t′ t) = (
         emptied-past n eight (at i) (whole i b) (written n x t′ (at i)) Idle (written-past n eight (at i) (whole i b) x t′),
         refl,
@@ -343,3 +262,31 @@ past-n-stays o s (openFor k) h q P whole = absurd (h refl)
 past-n-stays o s (updateCall d w) h q P whole = (call-past o s P whole d (update d w) q, refl)
 past-n-stays o s (scanCall d) h q P whole = (call-past o s P whole d scan q, refl)
 past-n-stays o s (turnOf d page) h q P whole = turn-past o s P whole d page q
+
+-- an open day accepts no opening
+not-opening : (o : Order) (s : State Process) (x : Item) → s .day .count ≢ 0 → refusal (figure3 o) s x ≡ none → sees x ≢ opening
+unfolding refusal
+not-opening o s (openFor k) h q e = h (admitted-opening (figure3 o) s k q)
+not-opening o s (updateCall d w) h q e = let z : _≡_ {A = ℕ} 0 1 = cc in omega arith
+not-opening o s (scanCall d) h q e = let z : _≡_ {A = ℕ} 0 1 = cc in omega arith
+not-opening o s (turnOf d page) h q e = let z : _≡_ {A = ℕ} 0 1 = cc in omega arith
+
+-- on a day grown from an opening nothing is asked of the records
+pub past-n-stays-grown : (o : Order) (n : ℕ) → Permutes n o → 0 < n → (xs : List Item) (x : Item) →
+    let s = after (figure3 o) (openedFor n) xs in
+    let r = accept (figure3 o) s x in
+    refusal (figure3 o) s x ≡ none →
+    ((i : ℕ) → SamePast n (getD (s .table) i noProcess) (getD (r .state .table) i noProcess))
+    × (drop n (r .page) ≡ drop n (pageLent x))
+unfolding Days.openedFor
+past-n-stays-grown o n P z xs x q =
+    let s = after (figure3 o) (openedFor n) xs in
+    let c : s .day .count ≡ n = grown-count (figure3 o) n z xs in
+    subst
+    (λ k.
+    let r = accept (figure3 o) s x in
+    ((i : ℕ) → SamePast k (getD (s .table) i noProcess) (getD (r .state .table) i noProcess))
+    × (drop k (r .page) ≡ drop k (pageLent x)))
+    c
+    (past-n-stays o s x (not-opening o s x (λ h. omega arith) q) q (subst (λ k. Permutes k o) (sym c) P)
+    (λ i b. grown-whole o n P z xs i (subst (λ k. i < k) c b)))
