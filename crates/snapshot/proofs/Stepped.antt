@@ -90,10 +90,10 @@ module _ (M : Machine) (s : State (M .Process)) where
 
 -- ---- days grown from an opening
 
--- the state after a list of items, each lent what the one before left
-abbrev pub after : (M : Machine) → State (M .Process) → List Item → State (M .Process)
-after M s [] = s
-after M s (x ∷ xs) = after M (stepped M s x .state) xs
+-- the state that a list of items grows from s, each lent what the one before left
+abbrev pub grown : (M : Machine) → State (M .Process) → List Item → State (M .Process)
+grown M s [] = s
+grown M s (x ∷ xs) = grown M (stepped M s x .state) xs
 
 -- Kept: what holds of the zero record, and what calls and turns of a day for n processes keep, if the record read has it too
 module _ (M : Machine) (n : ℕ) (z : 0 < n) (Kept : M .Process → Type 0)
@@ -156,9 +156,9 @@ module _ (M : Machine) (n : ℕ) (z : 0 < n) (Kept : M .Process → Type 0)
       go none q = subst (λ r. Holding (r .state)) (sym (acceptance-does M s x q)) (accept-holds s x q h)
       go (some k) q = subst (λ r. Holding (r .state)) (sym (refusal-changes-nothing M s x k q)) h
 
-  after-holds : (s : State (M .Process)) (xs : List Item) → Holding s → Holding (after M s xs)
-  after-holds s [] h = h
-  after-holds s (x ∷ xs) h = after-holds (stepped M s x .state) xs (step-holds s x h)
+  grown-holds : (s : State (M .Process)) (xs : List Item) → Holding s → Holding (grown M s xs)
+  grown-holds s [] h = h
+  grown-holds s (x ∷ xs) h = grown-holds (stepped M s x .state) xs (step-holds s x h)
 
   module _ (zero : Kept (M .zeroProcess)) where
     opened-holds : Holding (openedFor M n)
@@ -170,12 +170,12 @@ module _ (M : Machine) (n : ℕ) (z : 0 < n) (Kept : M .Process → Type 0)
         }
 
     -- every record of a day grown from an opening has it
-    pub grown-keeps : (xs : List Item) (i : ℕ) → i < n → Kept (getD (after M (openedFor M n) xs .table) i (M .noProcess))
-    grown-keeps xs = after-holds (openedFor M n) xs opened-holds .kept
+    pub grown-keeps : (xs : List Item) (i : ℕ) → i < n → Kept (getD (grown M (openedFor M n) xs .table) i (M .noProcess))
+    grown-keeps xs = grown-holds (openedFor M n) xs opened-holds .kept
 
-    grown-count-kept : (xs : List Item) → after M (openedFor M n) xs .day .count ≡ n
-    grown-count-kept xs = after-holds (openedFor M n) xs opened-holds .count
+    grown-count-kept : (xs : List Item) → grown M (openedFor M n) xs .day .count ≡ n
+    grown-count-kept xs = grown-holds (openedFor M n) xs opened-holds .count
 
 -- a day opened for n stays one for n
-pub grown-count : (M : Machine) (n : ℕ) → 0 < n → (xs : List Item) → after M (openedFor M n) xs .day .count ≡ n
+pub grown-count : (M : Machine) (n : ℕ) → 0 < n → (xs : List Item) → grown M (openedFor M n) xs .day .count ≡ n
 grown-count M n z xs = grown-count-kept M n z (λ p. Unit {0}) (λ j p l k. tt) (λ i now other page p l b r k. tt) tt xs

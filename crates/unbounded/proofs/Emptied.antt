@@ -19,7 +19,7 @@ use Rattle.snapshot.specs.declared.Answer.{Answer}
 use Rattle.snapshot.specs.declared.Answer.the-variants.{Refused, Opened, Called, Read, Page, Written}
 use Rattle.snapshot.proofs.Lists.{take-over, getD-over, getD-map-below, take-replicate}
 use Rattle.snapshot.proofs.Owed.{actor}
-use Rattle.snapshot.proofs.Stepped.{admitted-call, admitted-turn, after, grown-keeps}
+use Rattle.snapshot.proofs.Stepped.{admitted-call, admitted-turn, grown, grown-keeps}
 use Rattle.unbounded.specs.declared.Register.{Register}
 use Rattle.unbounded.specs.declared.Process.{Process}
 use Rattle.unbounded.specs.declared.Task.{Task}
@@ -218,7 +218,7 @@ call-or-answer-empties o s (turnOf d page) q h S = answer-empties o s d page q h
 
 -- an idle process of a day grown from an opening has nothing collected
 pub idle-has-nothing : (o : Order) (n : ℕ) → 0 < n → n ≤ 8 → (xs : List Item) (i : ℕ) → i < n →
-    let p = getD (after (figure3 o) (openedFor n) xs .table) i noProcess in
+    let p = getD (grown (figure3 o) (openedFor n) xs .table) i noProcess in
     isIdle (p .task) ≡ true → NothingCollected n p
 unfolding Days.openedFor
 idle-has-nothing o n z eight xs i b =

@@ -57,10 +57,10 @@ module _ (n : ℕ) (z : 0 < n) (eight : n ≤ 8) where
   unfolding refusal
   opening-accepted = rw (le-ltb n 1 z, le-ltb 8 n eight, eq-eqb (length zeros) n (length-replicate n zeroProcess))
 
-  opens : (xs : List Item) →
+  opening-replies : (xs : List Item) →
       replies (method ascending n) (blank n) (openFor n ∷ xs) ≡ opened ∷ replies (method ascending n) (openedFor n) xs
   unfolding accept
-  opens xs =
+  opening-replies xs =
       replies-are n (blank n) (openFor n) xs opening-accepted
       ∙ ap {B = List (Reply ℕ)} (λ s. opened ∷ replies (method ascending n) s xs)
       (opening-opens ascending (blank n) n opening-accepted .0)
@@ -91,7 +91,7 @@ module _ (n : ℕ) (z : 0 < n) (eight : n ≤ 8) where
 
   pub day-g-follows : played (dayG n) ≡ dayG n .expected
   day-g-follows =
-      opens (turnOf 0 (nines n) ∷ turnOf (n + 1) (nines n) ∷ [])
+      opening-replies (turnOf 0 (nines n) ∷ turnOf (n + 1) (nines n) ∷ [])
       ∙ ap {B = List (Reply ℕ)} (λ r. opened ∷ r)
       (replies-are n (openedFor n) (turnOf 0 (nines n)) (turnOf (n + 1) (nines n) ∷ []) (outside-refused 0 refl)
       ∙ ap {B = List (Reply ℕ)} (λ r. refused 2 ∷ r)
@@ -125,40 +125,41 @@ module _ (n : ℕ) (z : 0 < n) (eight : n ≤ 8) where
         first-zero,
       )
 
-  abbrev calls : Process
-  calls = begin n (Scan 0) zeroProcess
+  -- the record of a process whose scan just began
+  abbrev scanner : Process
+  scanner = begin n (Scan 0) zeroProcess
 
   -- the day of n processes at event e
   abbrev dayWith : ℕ → Process → State Process
   dayWith e p = record { day = record { count = n; event = e }; table = tableWith p }
 
-  call-leaves : accept (figure3 ascending) (openedFor n) (scanCall 1) .state ≡ dayWith 1 calls
+  call-leaves : accept (figure3 ascending) (openedFor n) (scanCall 1) .state ≡ dayWith 1 scanner
   unfolding accept calledBy advance Days.openedFor
   call-leaves = ap (λ p. dayWith 1 (begin n (Scan 0) p)) first-zero
 
-  sound-calls : someOf (λ p. unsound (mostReads n) 1 p) (tableWith calls) ≡ false
+  sound-calls : someOf (λ p. unsound (mostReads n) 1 p) (tableWith scanner) ≡ false
   unfolding unsound begin mostReads
   sound-calls =
-      some-of-none (λ p. unsound (mostReads n) 1 p) (tableWith calls) noProcess
+      some-of-none (λ p. unsound (mostReads n) 1 p) (tableWith scanner) noProcess
       (λ i l. by-cases (ℕ-discrete i 0)
       (λ q.
-      ap (λ j. unsound (mostReads n) 1 (getD (tableWith calls) j noProcess)) q ∙ ap (unsound (mostReads n) 1) (first-with calls)
+      ap (λ j. unsound (mostReads n) 1 (getD (tableWith scanner) j noProcess)) q ∙ ap (unsound (mostReads n) 1) (first-with scanner)
       ∙ lt-leb (mostReads n) 0 (let m = mul-pos z z in omega arith))
       (λ q.
-      let b : i < n = omega (arith, length-with calls) in
-      ap (unsound (mostReads n) 1) (getD-set-other zeros 0 i calls noProcess q ∙ getD-replicate n i zeroProcess noProcess b)))
+      let b : i < n = omega (arith, length-with scanner) in
+      ap (unsound (mostReads n) 1) (getD-set-other zeros 0 i scanner noProcess q ∙ getD-replicate n i zeroProcess noProcess b)))
 
-  turn-accepted : refusal (figure3 ascending) (dayWith 1 calls) (turnOf 1 (nines n)) ≡ none
+  turn-accepted : refusal (figure3 ascending) (dayWith 1 scanner) (turnOf 1 (nines n)) ≡ none
   unfolding refusal isFull begin
   turn-accepted =
       rw (
         ne-eqb n 0 (λ q. omega arith),
-        eq-eqb (length (tableWith calls)) n (length-with calls),
+        eq-eqb (length (tableWith scanner)) n (length-with scanner),
         le-ltb (length (nines n)) n (omega (arith, length-replicate {A = ℕ} n 9)),
         le-ltb 8 n eight,
         sound-calls,
         le-ltb n 1 z,
-        first-with calls,
+        first-with scanner,
       )
 
   -- the first turn of a scan ends no double collect
@@ -166,16 +167,16 @@ module _ (n : ℕ) (z : 0 < n) (eight : n ≤ 8) where
   unfolding foundBy position
   finds-none now r p = rw (zero-mod (2 * n), decision-waits n ascending 0 _ _ _ (λ q. omega arith))
 
-  turn-reads : turnBy (figure3 ascending) (dayWith 1 calls) 1 (nines n) .answer ≡ Read
+  turn-reads : turnBy (figure3 ascending) (dayWith 1 scanner) 1 (nines n) .answer ≡ Read
   unfolding turnBy turned begin
   turn-reads =
-      let r = readFrom (figure3 ascending) (tableWith calls) (reads ascending n (Scan 0)) .register in
+      let r = readFrom (figure3 ascending) (tableWith scanner) (reads ascending n (Scan 0)) .register in
       ap
       (λ p.
-      turned ascending n 2 (readFrom (figure3 ascending) (tableWith calls) (reads ascending n (p .task)) .register) (nines n) p
+      turned ascending n 2 (readFrom (figure3 ascending) (tableWith scanner) (reads ascending n (p .task)) .register) (nines n) p
       .answer)
-      (first-with calls)
-      ∙ ap (λ f. scanTurn ascending n 2 r (nines n) calls 0 f .answer) (finds-none 2 r calls)
+      (first-with scanner)
+      ∙ ap (λ f. scanTurn ascending n 2 r (nines n) scanner 0 f .answer) (finds-none 2 r scanner)
 
   short-refused : (e : ℕ) (ps : List Process) → length ps ≡ n →
       refusal (figure3 ascending) (record { day = record { count = n; event = e }; table = ps }) (turnOf 1 (nines (n - 1)))
@@ -192,22 +193,22 @@ module _ (n : ℕ) (z : 0 < n) (eight : n ≤ 8) where
   abbrev last : List Item
   last = turnOf 1 (nines (n - 1)) ∷ []
 
-  turn-replies : replies (method ascending n) (dayWith 1 calls) (turnOf 1 (nines n) ∷ last) ≡ read ∷ refused 6 ∷ []
+  turn-replies : replies (method ascending n) (dayWith 1 scanner) (turnOf 1 (nines n) ∷ last) ≡ read ∷ refused 6 ∷ []
   unfolding accept advance
   turn-replies =
-      let r = turnBy (figure3 ascending) (dayWith 1 calls) 1 (nines n) in
-      let ps = set (tableWith calls) 0 (r .state) in
+      let r = turnBy (figure3 ascending) (dayWith 1 scanner) 1 (nines n) in
+      let ps = set (tableWith scanner) 0 (r .state) in
       let left : State Process = record { day = record { count = n; event = 2 }; table = ps } in
-      replies-are n (dayWith 1 calls) (turnOf 1 (nines n)) last turn-accepted
+      replies-are n (dayWith 1 scanner) (turnOf 1 (nines n)) last turn-accepted
       ∙ ap (λ a. replyOf (take n (r .page)) a ∷ replies (method ascending n) left last) turn-reads
       ∙ ap {B = List (Reply ℕ)} (λ xs. read ∷ xs)
       (replies-are n left (turnOf 1 (nines (n - 1))) []
-      (short-refused 2 ps (length-set (tableWith calls) 0 (r .state) ∙ length-with calls)))
+      (short-refused 2 ps (length-set (tableWith scanner) 0 (r .state) ∙ length-with scanner)))
 
   pub day-h-follows : played (dayH n) ≡ dayH n .expected
   unfolding accept
   day-h-follows =
-      opens (scanCall 1 ∷ turnOf 1 (nines n) ∷ last)
+      opening-replies (scanCall 1 ∷ turnOf 1 (nines n) ∷ last)
       ∙ ap {B = List (Reply ℕ)} (λ r. opened ∷ r)
       (replies-are n (openedFor n) (scanCall 1) (turnOf 1 (nines n) ∷ last) call-accepted
       ∙ ap {B = List (Reply ℕ)} (λ r. called ∷ r)

@@ -20,7 +20,7 @@ use Rattle.snapshot.specs.Days as Days
 use Rattle.snapshot.specs.Days.{State, Item, openFor, updateCall, scanCall, turnOf, sees, pageLent, refusal}
 use Rattle.snapshot.specs.Days.{callCauses, turnCauses, advance, calledBy, readFrom, turnBy, accept}
 use Rattle.snapshot.proofs.Lists.{drop-over}
-use Rattle.snapshot.proofs.Stepped.{admitted-call, admitted-turn, admitted-opening, after, grown-count}
+use Rattle.snapshot.proofs.Stepped.{admitted-call, admitted-turn, admitted-opening, grown, grown-count}
 use Rattle.unbounded.specs.declared.Register.{Register}
 use Rattle.unbounded.specs.declared.Process.{Process}
 use Rattle.unbounded.specs.declared.Task.{Task}
@@ -273,14 +273,14 @@ not-opening o s (turnOf d page) h q e = let z : _≡_ {A = ℕ} 0 1 = cc in omeg
 
 -- on a day grown from an opening nothing is asked of the records
 pub past-n-stays-grown : (o : Order) (n : ℕ) → Permutes n o → 0 < n → (xs : List Item) (x : Item) →
-    let s = after (figure3 o) (openedFor n) xs in
+    let s = grown (figure3 o) (openedFor n) xs in
     let r = accept (figure3 o) s x in
     refusal (figure3 o) s x ≡ none →
     ((i : ℕ) → SamePast n (getD (s .table) i noProcess) (getD (r .state .table) i noProcess))
     × (drop n (r .page) ≡ drop n (pageLent x))
 unfolding Days.openedFor
 past-n-stays-grown o n P z xs x q =
-    let s = after (figure3 o) (openedFor n) xs in
+    let s = grown (figure3 o) (openedFor n) xs in
     let c : s .day .count ≡ n = grown-count (figure3 o) n z xs in
     subst
     (λ k.

@@ -17,7 +17,7 @@ use Rattle.snapshot.specs.Days as Days
 use Rattle.snapshot.specs.Days.{Item}
 use Rattle.snapshot.proofs.Lists.{length-over, getD-over, getD-over-past, getD-map-below}
 use Rattle.snapshot.proofs.DoubleCollect.{Ends, lender, verdict-ends}
-use Rattle.snapshot.proofs.Stepped.{after, grown-keeps}
+use Rattle.snapshot.proofs.Stepped.{grown, grown-keeps}
 use Rattle.unbounded.specs.declared.Register.{Register}
 use Rattle.unbounded.specs.declared.Process.{Process}
 use Rattle.unbounded.specs.declared.Task.{Task}
@@ -225,7 +225,7 @@ reads-within o n P z (Ready x at t) j q = absurd (Option·none-ne-some j q)
 
 -- every record of a day grown from an opening is whole
 pub grown-whole : (o : Order) (n : ℕ) → Permutes n o → 0 < n → (xs : List Item) (i : ℕ) → i < n →
-    Whole (getD (after (figure3 o) (openedFor n) xs .table) i noProcess)
+    Whole (getD (grown (figure3 o) (openedFor n) xs .table) i noProcess)
 unfolding Days.openedFor
 grown-whole o n P z =
     grown-keeps (figure3 o) n z Whole
