@@ -3,6 +3,7 @@ pub mod Owed
 pub mod Fold
 pub mod Works
 pub mod Demand3
+pub mod Stepped
 pub mod Booleans
 pub mod Causes
 pub mod Lists

@@ -1,5 +1,5 @@
 -- Laws of the list shapes of specs/Lists, and of counting the indices at which a test holds.
-use Prim.Native.Nat.{ℕ, zero, suc, _+_, _≤_, _<_}
+use Prim.Native.Nat.{ℕ, zero, suc, _+_, _-_, _≤_, _<_}
 use native.Mathlib.Nat.{not-suc-le-zero}
 use native.Mathlib.Numerals.{add-one}
 use native.Mathlib.Omega.{arith}
@@ -9,7 +9,7 @@ use mathlib.Core.Logic.{by-cases}
 use mathlib.Core.Bool.{Bool, true, false, cond, _||_, true≢false}
 use mathlib.Core.List.{List, [], _∷_, _++_, map}
 use lib.ListN.{length, getD, take, drop, set, replicate, length-append, length-drop, length-replicate, getD-replicate, List·getD-append}
-use lib.Seq.{take-at, take-all, getD-at, getD-take, ext-getD, drop-cons, set-at, length-take-le, append-snoc, take-suc, take-take}
+use lib.Seq.{take-at, drop-at, take-all, getD-at, getD-append-add, getD-drop, getD-take, ext-getD, drop-cons, set-at, length-take-le, append-snoc, take-suc, take-take}
 use Rattle.snapshot.proofs.Booleans.{or-neither}
 use Rattle.snapshot.specs.Lists.{over, eachFrom, each, firstFrom, firstBelow, someOf}
 
@@ -32,6 +32,14 @@ module _ {A : Type 0} (n : ℕ) (a b : List A) where
   getD-over-at z l m =
       ap (λ t. getD (take n a ++ t) n z) (drop-cons b n z m)
       ∙ getD-at (take n a) (getD b n z) (drop (suc n) b) z n (length-take-le n a l)
+
+  pub getD-over-past : (i : ℕ) (z : A) → n ≤ length a → n ≤ i → getD (over n a b) i z ≡ getD b i z
+  getD-over-past i z l m =
+      ap (λ k. getD (over n a b) k z) (let q = length-take-le n a l in omega arith)
+      ∙ getD-append-add (take n a) (drop n b) (i - n) z ∙ getD-drop n b (i - n) z ∙ ap (λ k. getD b k z) (omega arith)
+
+  pub drop-over : n ≤ length a → drop n (over n a b) ≡ drop n b
+  drop-over l = drop-at (take n a) (drop n b) n (length-take-le n a l)
 
   pub over-take : over n (take n a) b ≡ over n a b
   over-take = ap (λ t. t ++ drop n b) (take-take n n a (omega arith))

@@ -8,6 +8,10 @@ pub mod Scanning
 pub mod Ties
 pub mod Deeds
 pub mod Demand3
+pub mod Emptied
+pub mod Whole
+pub mod PlacesPast
+pub mod MarkedCounts
 pub mod MarkedDays
 pub mod RefusedDays
 pub mod Figure3

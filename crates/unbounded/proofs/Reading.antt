@@ -91,7 +91,7 @@ pub record Sized (p : Process) : Type 0 where
   pub seconds : 8 ≤ length (p .second)
   pub marks : 8 ≤ length (p .moved)
 
-length-cleared : (n : ℕ) (rs : List Register) → n ≤ length rs → length (cleared n rs) ≡ length rs
+pub length-cleared : (n : ℕ) (rs : List Register) → n ≤ length rs → length (cleared n rs) ≡ length rs
 unfolding cleared
 length-cleared n rs l =
     length-over n (map (laid n zeroRegister) rs) rs

@@ -84,11 +84,11 @@ abbrev dayF : ℕ → MarkedDay
 dayF k = record { count = k; items = openFor k ∷ []; expected = refused 1 ∷ [] }
 
 -- case G, for n processes
-abbrev dayG : ℕ → MarkedDay
+abbrev pub dayG : ℕ → MarkedDay
 dayG n = record { count = n; items = openFor n ∷ turns n 1 0 ++ turns n 1 (n + 1); expected = opened ∷ refused 2 ∷ refused 2 ∷ [] }
 
 -- case H, for n processes
-abbrev dayH : ℕ → MarkedDay
+abbrev pub dayH : ℕ → MarkedDay
 dayH n =
     record {
       count = n;
@@ -105,5 +105,10 @@ dayJ =
       expected = opened ∷ called ∷ read ∷ refused 3 ∷ refused 3 ∷ page 0 2 2 (0 ∷ []) ∷ [];
     }
 
-unfoldable pub markedDays : List MarkedDay
-markedDays = dayA ∷ dayB ∷ dayC ∷ dayD ∷ dayE ∷ dayF 9 ∷ dayF 0 ∷ dayG 2 ∷ dayG 8 ∷ dayH 2 ∷ dayH 8 ∷ dayJ ∷ []
+-- the days of which document 01 gives every number
+unfoldable pub fixedDays : List MarkedDay
+fixedDays = dayA ∷ dayB ∷ dayC ∷ dayD ∷ dayE ∷ dayF 9 ∷ dayF 0 ∷ dayJ ∷ []
+
+-- these, and G and H for n processes
+unfoldable pub markedDays : ℕ → List MarkedDay
+markedDays n = fixedDays ++ dayG n ∷ dayH n ∷ []

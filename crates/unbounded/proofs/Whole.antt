@@ -1,0 +1,235 @@
+-- "A collect has eight rows and a view eight words": calls and turns keep it so, and a page that a turn finds has n words.
+use Prim.Native.Nat.{ℕ, _+_, _*_, _≤_, _<_}
+use native.Mathlib.Omega.{arith}
+use native.Mathlib.Decide.{ℕ-discrete, decLt}
+use mathlib.Core.Path.{_≡_, refl, ap, _∙_, subst}
+use mathlib.Core.Logic.{by-cases}
+use mathlib.Core.Bool.{Bool, true, false, cond}
+use mathlib.Core.List.{List, map}
+use mathlib.Core.Option.{Option, none, some, Option·none-ne-some, Option·some-injective}
+use lib.ListN.{length, getD, replicate, length-map, getD-replicate}
+use lib.Seq.{getD-set-same, length-take-le}
+use lib.Dec.{eqb, ltb}
+use Rattle.snapshot.specs.Lists.{over}
+use Rattle.snapshot.specs.Marks.{lends, Found}
+use Rattle.snapshot.specs.Verdict.{Verdict, clean, lent, again, verdict}
+use Rattle.snapshot.specs.Days as Days
+use Rattle.snapshot.specs.Days.{Item}
+use Rattle.snapshot.proofs.Lists.{length-over, getD-over, getD-over-past, getD-map-below}
+use Rattle.snapshot.proofs.DoubleCollect.{Ends, lender, verdict-ends}
+use Rattle.snapshot.proofs.Stepped.{grown, grown-keeps}
+use Rattle.unbounded.specs.declared.Register.{Register}
+use Rattle.unbounded.specs.declared.Process.{Process}
+use Rattle.unbounded.specs.declared.Task.{Task}
+use Rattle.unbounded.specs.declared.Task.the-variants.{Idle, Scan, Update, Ready}
+use Rattle.unbounded.specs.Registers.{noRegister, zeroRegister, laid, readInto, cleared, Order, collectedAt, differs}
+use Rattle.unbounded.specs.Processes.{taskOf, noProcess, zeroProcess, emptied, begin}
+use Rattle.unbounded.specs.Turns.{position, placeAt, reads, firstAfter, secondAfter, endAfter, decision, found}
+use Rattle.unbounded.specs.Turns.{afterRead, foundBy, scanTurn, updateTurn, written, turned, turnedBy}
+use Rattle.unbounded.specs.Days.{figure3, openedFor}
+use Rattle.unbounded.proofs.Places.{page-of-long, length-read-into, read-into-other}
+use Rattle.unbounded.proofs.Reading.{position-low, place-below, length-cleared}
+use Rattle.unbounded.proofs.Scans.{Permutes}
+
+-- a collect of eight registers, each with a view of eight words
+pub record WholeCollect (rs : List Register) : Type 0 where
+  pub places : length rs ≡ 8
+  pub views : (i : ℕ) → i < 8 → length (getD rs i noRegister .view) ≡ 8
+
+-- every array of a record has its eight places, as in every record that code can lend
+pub record Whole (p : Process) : Type 0 where
+  pub register : length (p .register .view) ≡ 8
+  pub view : length (p .view) ≡ 8
+  pub first : WholeCollect (p .first)
+  pub second : WholeCollect (p .second)
+
+-- ---- collects
+
+module _ (n : ℕ) (eight : n ≤ 8) where
+  length-over-eight : {A : Type 0} (a b : List A) → n ≤ length a → length b ≡ 8 → length (over n a b) ≡ 8
+  length-over-eight a b l m = length-over n a b (length-take-le n a l) (omega arith) ∙ m
+
+  laid-eight : (r old : Register) → n ≤ length (r .view) → length (old .view) ≡ 8 → length (laid n r old .view) ≡ 8
+  unfolding laid
+  laid-eight r old l m = length-over-eight (r .view) (old .view) l m
+
+  module _ (rs : List Register) (c : WholeCollect rs) where
+    whole-cleared : WholeCollect (cleared n rs)
+    unfolding cleared
+    whole-cleared =
+        let zeros = map (laid n zeroRegister) rs in
+        let size = c .places in
+        let long : n ≤ length zeros = (let q = length-map rs (laid n zeroRegister) in omega arith) in
+        record {
+          places = length-cleared n rs (omega arith) ∙ size;
+          views = λ i b. by-cases (decLt i n)
+              (λ m.
+              ap (λ r. length (r .view))
+              (getD-over n zeros rs i noRegister (length-take-le n zeros long) m
+              ∙ getD-map-below (laid n zeroRegister) rs i noRegister noRegister (omega arith))
+              ∙ laid-eight zeroRegister (getD rs i noRegister) (omega arith) (c .views i b))
+              (λ m. ap (λ r. length (r .view)) (getD-over-past n zeros rs i noRegister long (omega arith)) ∙ c .views i b);
+        }
+
+    module _ (r : Register) (l : n ≤ length (r .view)) where
+      whole-read : (i : ℕ) → WholeCollect (readInto n r i rs)
+      unfolding readInto
+      whole-read i =
+          let old = getD rs i noRegister in
+          let size = c .places in
+          record {
+            places = length-read-into n r i rs ∙ size;
+            views = λ k b. by-cases (ℕ-discrete k i)
+                (λ q.
+                ap (λ j. length (getD (readInto n r i rs) j noRegister .view)) q
+                ∙ ap (λ x. length (x .view)) (getD-set-same rs i (laid n r old) noRegister (omega arith))
+                ∙ laid-eight r old l (c .views i (omega arith)))
+                (λ q. ap (λ x. length (x .view)) (read-into-other n r i rs k q) ∙ c .views k b);
+          }
+
+      whole-first : (pos : ℕ) → WholeCollect (firstAfter n pos r rs)
+      unfolding firstAfter
+      whole-first pos = go (ltb pos n)
+        where
+          go : (b : Bool) → WholeCollect (cond b (readInto n r (placeAt n pos) rs) rs)
+          go true = whole-read (placeAt n pos)
+          go false = c
+
+      whole-second : (pos : ℕ) → WholeCollect (secondAfter n pos r rs)
+      unfolding secondAfter
+      whole-second pos = go (ltb pos n)
+        where
+          go : (b : Bool) → WholeCollect (cond b rs (readInto n r (placeAt n pos) rs))
+          go true = c
+          go false = whole-read (placeAt n pos)
+
+-- ---- a page that was found has n words
+
+abbrev pub Full : ℕ → Option (Found ℕ) → Type 0
+Full n none = Unit {0}
+Full n (some f) = n ≤ length (f .words)
+
+lender-below : (n : ℕ) (moved lends : ℕ → Bool) {j : ℕ} → Ends n moved lends (lent j) → j < n
+lender-below n moved lends (lender j l m h) = l
+
+module _ (o : Order) (n : ℕ) where
+  decision-below : (p : ℕ) (a b : List Register) (ms : List Bool) (j : ℕ) → decision o n p a b ms ≡ some (lent j) → j < n
+  unfolding decision
+  decision-below p a b ms j = go (eqb (p + 1) (2 * n))
+    where
+      go : (c : Bool) → cond c (some (verdict n (differs o a b) (lends (differs o a b) ms))) none ≡ some (lent j) → j < n
+      go true q =
+          lender-below n (differs o a b) (lends (differs o a b) ms)
+          (subst (Ends n (differs o a b) (lends (differs o a b) ms))
+          (Option·some-injective (verdict n (differs o a b) (lends (differs o a b) ms)) (lent j) q)
+          (verdict-ends n (differs o a b) (lends (differs o a b) ms)))
+      go false q = absurd (Option·none-ne-some (lent j) q)
+
+  found-full : (b : List Register) (end : ℕ) → ((j : ℕ) → j < n → n ≤ length (collectedAt o b j .view)) →
+      (v : Option Verdict) → ((j : ℕ) → v ≡ some (lent j) → j < n) → Full n (found o n b end v)
+  found-full b end long none h = tt
+  found-full b end long (some clean) h = omega (arith, page-of-long o n b)
+  found-full b end long (some (lent j)) h =
+      omega (arith, length-take-le n (collectedAt o b j .view) (long j (h j refl)))
+  found-full b end long (some again) h = tt
+
+-- ---- records
+
+module _ (n : ℕ) (eight : n ≤ 8) (p : Process) (w : Whole p) where
+  whole-emptied : (r : Register) (k : Task) → length (r .view) ≡ 8 → Whole (emptied n r k p)
+  whole-emptied r k q =
+      record {
+        register = q;
+        view = length-over-eight n eight (replicate 8 0) (p .view) (omega arith) (w .view);
+        first = whole-cleared n eight (p .first) (w .first);
+        second = whole-cleared n eight (p .second) (w .second);
+      }
+
+  pub whole-begin : (k : Task) → Whole (begin n k p)
+  unfolding begin
+  whole-begin k = whole-emptied (p .register) k (w .register)
+
+  whole-written : (x at : ℕ) → length (written n x at p .view) ≡ 8
+  unfolding written
+  whole-written x at =
+      laid-eight n eight (record { word = x; seq = p .register .seq + 1; view = p .view; at = at }) (p .register)
+      (omega (arith, w .view)) (w .register)
+
+  module _ (o : Order) (P : Permutes n o) (now : ℕ) (r : Register) where
+    pub found-by-full : n ≤ length (r .view) → (pos : ℕ) → Full n (foundBy o n now pos r p)
+    unfolding foundBy
+    found-by-full l pos =
+        let a = firstAfter n pos r (p .first) in
+        let b = secondAfter n pos r (p .second) in
+        found-full o n b (endAfter n pos now (p .«first_end»))
+        (λ j m.
+        let m′ = P .place-within j m in
+        omega (arith, whole-second n eight (p .second) (w .second) r l pos .views (o .place j) (omega arith)))
+        (decision o n pos a b (p .moved)) (decision-below o n pos a b (p .moved))
+
+    whole-after-read : n ≤ length (r .view) → (pos : ℕ) (k : Task) (v : List ℕ) → length v ≡ 8 →
+        Whole (afterRead o n now pos r p k v)
+    unfolding afterRead
+    whole-after-read l pos k v q =
+        record {
+          register = w .register;
+          view = q;
+          first = whole-first n eight (p .first) (w .first) r l pos;
+          second = whole-second n eight (p .second) (w .second) r l pos;
+        }
+
+    -- a turn that reads register r, if it reads one
+    module _ (page : List ℕ) where
+      scan-whole : n ≤ length (r .view) → (t : ℕ) (f : Option (Found ℕ)) → Whole (scanTurn o n now r page p t f .state)
+      scan-whole l t none = whole-after-read l (position n t) (Scan (t + 1)) (p .view) (w .view)
+      scan-whole l t (some f) = whole-begin Idle
+
+      update-whole : n ≤ length (r .view) → (x t : ℕ) (f : Option (Found ℕ)) → Full n f →
+          Whole (updateTurn o n now r page p x t f .state)
+      update-whole l x t none h = whole-after-read l (position n t) (Update x (t + 1)) (p .view) (w .view)
+      update-whole l x t (some f) h =
+          whole-after-read l (position n t) (Ready x (f .instant) (t + 1)) (over n (f .words) (p .view))
+          (length-over-eight n eight (f .words) (p .view) h (w .view))
+
+      pub whole-turned : ((j : ℕ) → reads o n (p .task) ≡ some j → n ≤ length (r .view)) → Whole (turned o n now r page p .state)
+      unfolding turned
+      whole-turned = go (p .task)
+        where
+          go : (k : Task) → ((j : ℕ) → reads o n k ≡ some j → n ≤ length (r .view)) → Whole (turnedBy o n now r page p k .state)
+          go Idle l = w
+          go (Scan t) l =
+              scan-whole (l (o .register (placeAt n (position n t))) refl) t (foundBy o n now (position n t) r p)
+          go (Update x t) l =
+              let m = l (o .register (placeAt n (position n t))) refl in
+              update-whole m x t (foundBy o n now (position n t) r p) (found-by-full m (position n t))
+          go (Ready x at t) l = whole-emptied (written n x at p) Idle (whole-written x at)
+
+zero-whole : Whole zeroProcess
+zero-whole =
+    let c : WholeCollect (replicate 8 zeroRegister)
+    = record { places = refl; views = λ i b. ap (λ r. length (r .view)) (getD-replicate 8 i zeroRegister noRegister b) } in
+    record { register = refl; view = refl; first = c; second = c }
+
+-- ---- days
+
+-- a turn reads a register of the table
+pub reads-within : (o : Order) (n : ℕ) → Permutes n o → 0 < n → (k : Task) (j : ℕ) → reads o n k ≡ some j → j < n
+reads-within o n P z Idle j q = absurd (Option·none-ne-some j q)
+reads-within o n P z (Scan t) j q =
+    subst (λ i. i < n) (Option·some-injective (o .register (placeAt n (position n t))) j q)
+    (P .register-within (placeAt n (position n t)) (place-below n (position n t) (position-low n t z)))
+reads-within o n P z (Update x t) j q =
+    subst (λ i. i < n) (Option·some-injective (o .register (placeAt n (position n t))) j q)
+    (P .register-within (placeAt n (position n t)) (place-below n (position n t) (position-low n t z)))
+reads-within o n P z (Ready x at t) j q = absurd (Option·none-ne-some j q)
+
+-- every record of a day grown from an opening is whole
+pub grown-whole : (o : Order) (n : ℕ) → Permutes n o → 0 < n → (xs : List Item) (i : ℕ) → i < n →
+    Whole (getD (grown (figure3 o) (openedFor n) xs .table) i noProcess)
+unfolding Days.openedFor
+grown-whole o n P z =
+    grown-keeps (figure3 o) n z Whole
+    (λ j p l w. whole-begin n l p w (taskOf j 0))
+    (λ i now other page p l busy read w. whole-turned n l p w o P now (other .register) page
+    (λ j q. omega (arith, read j q (reads-within o n P z (p .task) j q) .register)))
+    zero-whole
