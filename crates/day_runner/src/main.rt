@@ -14,10 +14,10 @@ mod printed;
 mod records;
 mod system;
 
-// As many bytes as 1,023 of the shortest records: a pass lays a line for each and one for the end, 1,024 in all, and the output has
-// room for as many of the longest.
+// As many bytes as 1,023 of the shortest records: a pass lays a line for each and one for the end.
 const INPUT: usize = 6138;
 
+// Room for those 1,024 lines, whatever they are: 256 bytes for each, daytext's LONGEST.
 const OUTPUT: usize = 262144;
 
 // A pass: one read fills up the input, the records that lie whole in it are run, and their lines are written.
