@@ -24,11 +24,11 @@ use Rattle.unbounded.specs.declared.Register.{Register}
 use Rattle.unbounded.specs.declared.Process.{Process}
 use Rattle.unbounded.specs.declared.Task.{Task}
 use Rattle.unbounded.specs.declared.Task.the-variants.{Idle, Scan, Update, Ready}
-use Rattle.unbounded.specs.Registers.{noRegister, zeroRegister, laid, cleared, Order}
+use Rattle.unbounded.specs.Registers.{noRegister, zeroRegister, laid, cleared, trimmed, Order}
 use Rattle.unbounded.specs.Processes.{isIdle, taskOf, noProcess, zeroProcess, emptied, begin}
 use Rattle.unbounded.specs.Turns.{position, reads, afterRead, foundBy, scanTurn, updateTurn, written, turned, turnedBy}
 use Rattle.unbounded.specs.Days.{figure3, openedFor}
-use Rattle.unbounded.proofs.Places.{trimmed, trimmed-laid}
+use Rattle.unbounded.proofs.Places.{trimmed-laid}
 use Rattle.unbounded.proofs.Reading.{Sized, sized-emptied, sized-begin, sized-read}
 
 -- the instant of the view that a task keeps, or 0
