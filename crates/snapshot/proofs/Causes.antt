@@ -16,7 +16,8 @@ pub accepted-passes : (cs : List Cause) → firstCause cs ≡ none → Passes cs
 accepted-passes [] h = tt
 accepted-passes (c ∷ cs) h = go (c .0) refl (accepted-passes cs) h
   where
-    go : (b : Bool) → c .0 ≡ b → (firstCause cs ≡ none → Passes cs) → cond b (some (c .1)) (firstCause cs) ≡ none → Passes (c ∷ cs)
+    go : (b : Bool) → c .0 ≡ b → (firstCause cs ≡ none → Passes cs) → cond b (some (c .1)) (firstCause cs) ≡ none →
+        Passes (c ∷ cs)
     go true q r g = absurd (Option·some-ne-none (c .1) g)
     go false q r g = (q, r g)
 

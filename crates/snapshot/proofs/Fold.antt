@@ -7,12 +7,14 @@ use mathlib.Core.Path.{_≡_, refl, sym, ap, _∙_, subst}
 use mathlib.Core.Logic.{_≢_, by-cases}
 use mathlib.Core.List.{List, [], _∷_, _++_}
 use mathlib.Core.Option.{Option, none, some, Option·map, Option·none-ne-some}
-use lib.ListN.{length, getD, set, replicate, length-append, length-set, length-replicate, getD-replicate, List·getD-append, List·getD-eq-default}
+use lib.ListN.{length, getD, set, replicate, length-append, length-set, length-replicate, getD-replicate, List·getD-append}
+use lib.ListN.{List·getD-eq-default}
 use lib.Seq.{getD-set-same, getD-set-other, getD-at}
 use Rattle.snapshot.specs.declared.Refusal.{Refusal}
 use Rattle.snapshot.specs.declared.Answer.{Answer}
 use Rattle.snapshot.specs.Tally.{Seen, Call, Tally, started, callOf, instant, advanced, opens, gains, puts, putsIf, tallied}
-use Rattle.snapshot.specs.Demand.{Method, Result, admit, step, Among, Fits, PageFits, WrittenFits, IsUpdate, Waiting, Patient, Holds}
+use Rattle.snapshot.specs.Demand.{Method, Result, admit, step, Among, Fits, PageFits, WrittenFits, IsUpdate, Waiting}
+use Rattle.snapshot.specs.Demand.{Patient, Holds}
 use Rattle.snapshot.proofs.Owed.{Owed, Deed, call-deed, read-deed, page-deed, write-deed, actor}
 
 -- ---- the history of a list
@@ -117,7 +119,8 @@ module _ (M : Method) (O : Owed M) (H : ℕ → M .State) where
   module _ (t : Tally (M .Value)) (a : Agree t) (shown : List (M .Value)) (p : O .Past H (suc (t .event)))
       (e : M .event (H (suc (t .event))) ≡ suc (t .event)) where
     fits-and-agrees : {x : Seen} {r : Answer} →
-        ((i : ℕ) → i < M .processes → i ≢ actor x → (b : Option Call) → O .Tied H (t .event) i b → O .Tied H (suc (t .event)) i b) →
+        ((i : ℕ) → i < M .processes → i ≢ actor x → (b : Option Call) → O .Tied H (t .event) i b →
+        O .Tied H (suc (t .event)) i b) →
         Deed M (O .Tied) H (t .event) (λ i. getD (t .calls) i none) shown x r →
         Fits (M .processes) (M .most) t x shown r
         × Agree (tallied (M .stored) t x r)

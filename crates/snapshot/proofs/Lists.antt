@@ -8,8 +8,10 @@ use mathlib.Core.Path.{_≡_, refl, sym, ap, ap₂, _∙_}
 use mathlib.Core.Logic.{by-cases}
 use mathlib.Core.Bool.{Bool, true, false, cond, _||_, true≢false}
 use mathlib.Core.List.{List, [], _∷_, _++_, map}
-use lib.ListN.{length, getD, take, drop, set, replicate, length-append, length-drop, length-replicate, getD-replicate, List·getD-append}
-use lib.Seq.{take-at, drop-at, take-all, getD-at, getD-append-add, getD-drop, getD-take, ext-getD, drop-cons, set-at, length-take-le, append-snoc, take-suc, take-take}
+use lib.ListN.{length, getD, take, drop, set, replicate, length-append, length-drop, length-replicate, getD-replicate}
+use lib.ListN.{List·getD-append}
+use lib.Seq.{take-at, drop-at, take-all, getD-at, getD-append-add, getD-drop, getD-take, ext-getD, drop-cons, set-at}
+use lib.Seq.{length-take-le, append-snoc, take-suc, take-take}
 use Rattle.snapshot.proofs.Booleans.{or-neither}
 use Rattle.snapshot.specs.Lists.{over, eachFrom, each, firstFrom, firstBelow, someOf}
 
@@ -98,7 +100,8 @@ map-set f [] i a = refl
 map-set f (x ∷ l) zero a = refl
 map-set {B = B} f (x ∷ l) (suc i) a = ap {B = List B} (λ r. f x ∷ r) (map-set f l i a)
 
-pub getD-map-below : {A B : Type 0} (f : A → B) (l : List A) (i : ℕ) (a : A) (b : B) → i < length l → getD (map f l) i b ≡ f (getD l i a)
+pub getD-map-below : {A B : Type 0} (f : A → B) (l : List A) (i : ℕ) (a : A) (b : B) → i < length l →
+    getD (map f l) i b ≡ f (getD l i a)
 getD-map-below f [] i a b h = absurd (not-suc-le-zero h)
 getD-map-below f (x ∷ l) zero a b h = refl
 getD-map-below f (x ∷ l) (suc i) a b h = getD-map-below f l i a b (omega arith)
@@ -117,11 +120,13 @@ take-replicate (suc n) zero a l = absurd (not-suc-le-zero l)
 take-replicate {A} (suc n) (suc k) a l = ap {B = List A} (λ r. a ∷ r) (take-replicate n k a (omega arith))
 
 -- a test that fails at every index fails of the list
-pub some-of-none : {A : Type 0} (f : A → Bool) (l : List A) (z : A) → ((i : ℕ) → i < length l → f (getD l i z) ≡ false) → someOf f l ≡ false
+pub some-of-none : {A : Type 0} (f : A → Bool) (l : List A) (z : A) → ((i : ℕ) → i < length l → f (getD l i z) ≡ false) →
+    someOf f l ≡ false
 some-of-none f [] z h = refl
 some-of-none f (x ∷ l) z h = ap (λ b. b || someOf f l) (h 0 (omega arith)) ∙ some-of-none f l z (λ i w. h (suc i) (omega arith))
 
-pub some-of-false : {A : Type 0} (f : A → Bool) (l : List A) (z : A) → someOf f l ≡ false → (i : ℕ) → i < length l → f (getD l i z) ≡ false
+pub some-of-false : {A : Type 0} (f : A → Bool) (l : List A) (z : A) → someOf f l ≡ false → (i : ℕ) → i < length l →
+    f (getD l i z) ≡ false
 some-of-false f [] z h i w = absurd (not-suc-le-zero w)
 some-of-false f (x ∷ l) z h zero w = or-neither (f x) (someOf f l) h .0
 some-of-false f (x ∷ l) z h (suc i) w = some-of-false f l z (or-neither (f x) (someOf f l) h .1) i (omega arith)
@@ -210,7 +215,8 @@ module _ (f g : ℕ → Bool) where
       let b = bit-le (f n) (g n) (h n (omega arith)) in
       omega arith
 
-  pub below-less : (n j : ℕ) → ((i : ℕ) → i < n → f i ≡ true → g i ≡ true) → j < n → f j ≡ false → g j ≡ true → below f n < below g n
+  pub below-less : (n j : ℕ) → ((i : ℕ) → i < n → f i ≡ true → g i ≡ true) → j < n → f j ≡ false → g j ≡ true →
+      below f n < below g n
   unfolding below
   below-less zero j h l p q = absurd (not-suc-le-zero l)
   below-less (suc n) j h l p q =

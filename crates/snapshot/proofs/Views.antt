@@ -6,7 +6,8 @@ use native.Mathlib.Decide.{decLe}
 use mathlib.Core.Path.{_≡_, sym, ap, _∙_, subst}
 use mathlib.Core.Logic.{by-cases}
 
--- a page and its instant are good for a scan begun at instant s and still running at e: later than s, and the page of that instant
+-- a page and its instant are good for a scan begun at instant s and still running at e: later than s, and the page of that
+-- instant
 pub record Good {X : Type 0} (page : ℕ → X) (s e : ℕ) (x : X) (a : ℕ) : Type 0 where
   pub late : s < a
   pub early : a ≤ e
@@ -50,7 +51,8 @@ module _ {X : Type 0} (page : ℕ → X) where
           last u t l q = subst (λ k. begun u < writes k → (u < at k) × Made u k) (sym q) (f u (omega arith))
 
       -- the register stays as it is
-      pub viewed-stays : at (suc e) ≡ at e → shows (suc e) ≡ shows e → writes (suc e) ≡ writes e → writes (suc e) ≤ begun (suc e) →
+      pub viewed-stays : at (suc e) ≡ at e → shows (suc e) ≡ shows e → writes (suc e) ≡ writes e →
+          writes (suc e) ≤ begun (suc e) →
           ((u : ℕ) → Made u e → Made u (suc e)) → Viewed (suc e)
       viewed-stays a s c b later =
           let p = h .past e (omega arith) in

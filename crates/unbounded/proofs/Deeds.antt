@@ -106,8 +106,10 @@ module _ (n : ℕ) (o : Order) (H : ℕ → State Process) (z : 0 < n) (eight : 
       unfolding foundBy
       scanned-now quiet =
           let place = placeAt n (S .pos) in
-          subst (λ pos. ScannedAt pos (read-at pos) (foundBy o n (suc e) pos (read-at pos) before)) (sym (position-is n o registers S))
-          (scanning-reads n o registers S il L P (omega (arith, T .sized .marks)) (λ j. ap (λ r. r .seq) (quiet j)) (read-at (S .pos))
+          subst (λ pos. ScannedAt pos (read-at pos) (foundBy o n (suc e) pos (read-at pos) before))
+          (sym (position-is n o registers S))
+          (scanning-reads n o registers S il L P (omega (arith, T .sized .marks)) (λ j. ap (λ r. r .seq) (quiet j))
+          (read-at (S .pos))
           (view-full (o .register place) (P .register-within place (place-below n (S .pos) (S .attempts .low))))
           (omega (arith, T .sized .firsts)) (omega (arith, T .sized .seconds)) refl)
 
@@ -134,7 +136,8 @@ module _ (n : ℕ) (o : Order) (H : ℕ → State Process) (z : 0 < n) (eight : 
         scan-found (some f) good E = (
           laws-stay n o H e i (begin n Idle before) L E refl,
           turn-pages (f .lender) (f .instant) (t + 1) job (add-one t ∙ ap suc (sym count))
-              (subst (λ ws. Good pages (c .number) e ws (f .instant)) (sym (take-over-all n (f .words) page (good-full good))) good)
+              (subst (λ ws. Good pages (c .number) e ws (f .instant))
+              (sym (take-over-all n (f .words) page (good-full good))) good)
               refl (record { sized = sized-begin n Idle before eight (T .sized); tie = tt }),
         )
 

@@ -81,7 +81,10 @@ module _ (n : ℕ) (o : Order) (H : ℕ → State Process) where
         Laws = Laws n o H;
         Tie = Ties n o H;
         laws-start = first-laws eight;
-        tie-start = λ i b. record { sized = record { firsts = omega arith; seconds = omega arith; marks = omega arith }; tie = tt };
+        tie-start = λ i b. record {
+          sized = record { firsts = omega arith; seconds = omega arith; marks = omega arith };
+          tie = tt;
+        };
         idle = λ e i p c T. tie-idle e i p (p .task) c (T .tie);
         patient = λ e i c b L T. let p = processAt (figure3 o) H i e in tie-patient e i b L p (p .task) c (T .tie);
         sound = λ e i c b L T. sound e i b L c T;

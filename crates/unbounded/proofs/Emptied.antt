@@ -56,7 +56,8 @@ module _ (n : ℕ) (eight : n ≤ 8) where
   unfolding cleared
   cleared-zero rs l i b =
       let zeros = map (laid n zeroRegister) rs in
-      let full : length (take n zeros) ≡ n = length-take-le n zeros (let q = length-map rs (laid n zeroRegister) in omega arith) in
+      let full : length (take n zeros) ≡ n = length-take-le n zeros (let q = length-map rs (laid n zeroRegister) in
+      omega arith) in
       ap (trimmed n)
       (getD-over n zeros rs i noRegister full b
       ∙ getD-map-below (laid n zeroRegister) rs i noRegister noRegister (omega arith))
@@ -226,6 +227,7 @@ idle-has-nothing o n z eight xs i b =
     (λ j p l k. (sized-begin n (taskOf j 0) p l (k .0), λ h. begin-nothing n l (taskOf j 0) p (job-keeps-none n eight j) (k .0)))
     (λ i now other page p l busy read k. (
       turned-sized o n now (other .register) page p l (k .0),
-      λ h. turned-nothing o n now (other .register) page p l (k .0) (turned-idle o n now (other .register) page p l (k .0) busy h),
+      λ h. turned-nothing o n now (other .register) page p l (k .0)
+          (turned-idle o n now (other .register) page p l (k .0) busy h),
     ))
     (record { firsts = omega arith; seconds = omega arith; marks = omega arith }, λ h. zero-nothing n eight) xs i b .1

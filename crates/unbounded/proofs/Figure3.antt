@@ -21,21 +21,27 @@ use Rattle.snapshot.specs.Demand.{Result}
 use Rattle.snapshot.specs.declared.Answer.the-variants.{Read, Page, Written}
 use Rattle.snapshot.proofs.Booleans.{bool-cases}
 use Rattle.snapshot.proofs.Lists.{each-cong, take-over-all, getD-over, getD-map-below, take-replicate}
-use Rattle.snapshot.proofs.Marks.{length-with-moved, moved-same, moved-other, none-moved, lends-moved, lends-marked, unmarked, marks-keep}
+use Rattle.snapshot.proofs.Marks.{length-with-moved, moved-same, moved-other, none-moved, lends-moved, lends-marked, unmarked}
+use Rattle.snapshot.proofs.Marks.{marks-keep}
 use Rattle.snapshot.specs.Verdict.{Verdict, clean, lent, again, verdict}
 use Rattle.snapshot.proofs.DoubleCollect.{Ends, nobody, lender, goes-on, verdict-ends}
 use Rattle.unbounded.specs.declared.Register.{Register}
 use Rattle.unbounded.specs.declared.Process.{Process}
 use Rattle.unbounded.specs.declared.Task.{Task}
 use Rattle.unbounded.specs.declared.Task.the-variants.{Scan, Update, Ready}
-use Rattle.unbounded.specs.Registers.{noRegister, zeroRegister, value, viewed, trimmed, Order, collectedAt, pageOf, differs, laid, readInto, cleared}
+use Rattle.unbounded.specs.Registers.{noRegister, zeroRegister, value, viewed, trimmed, Order, collectedAt, pageOf}
+use Rattle.unbounded.specs.Registers.{differs, laid, readInto, cleared}
 use Rattle.unbounded.specs.Processes.{turnsOf, taskOf, begin}
-use Rattle.unbounded.specs.Turns.{position, placeAt, reads, firstAfter, secondAfter, endAfter, marksAfter, found, afterRead, foundBy, scanTurn, updateTurn, written, turnedBy, turned}
-use Rattle.unbounded.specs.Figure3.{Array, assigned, Variables, Procedure, read, write, return, spent, collect, search, whileTrue, scanFor, scanProcedure, updateProcedure, initial}
+use Rattle.unbounded.specs.Turns.{position, placeAt, reads, firstAfter, secondAfter, endAfter, marksAfter, found}
+use Rattle.unbounded.specs.Turns.{afterRead, foundBy, scanTurn, updateTurn, written, turnedBy, turned}
+use Rattle.unbounded.specs.Figure3.{Array, assigned, Variables, Procedure, read, write, return, spent, collect, search}
+use Rattle.unbounded.specs.Figure3.{whileTrue, scanFor, scanProcedure, updateProcedure, initial}
 use Rattle.unbounded.specs.Figure3.{mark, Remembers, Standing, After, Wrote}
 use Rattle.unbounded.proofs.Places.{page-of-long, read-into-same, read-into-other, trimmed-laid}
 use Rattle.unbounded.proofs.Moved.{differs-false, differs-true}
-use Rattle.unbounded.proofs.Reading.{place-first, place-second, first-reads, first-waits, second-reads, second-waits, end-waits, end-reads, decision-waits, decision-falls, Sized, sized-begin, sized-read}
+use Rattle.unbounded.proofs.Reading.{place-first, place-second, first-reads, first-waits, second-reads, second-waits}
+use Rattle.unbounded.proofs.Reading.{end-waits, end-reads, decision-waits, decision-falls, Sized, sized-begin}
+use Rattle.unbounded.proofs.Reading.{sized-read}
 use Rattle.unbounded.proofs.Scans.{Permutes}
 
 -- ---- a process that does what a procedure says
@@ -67,7 +73,8 @@ module _ (n : ℕ) (o : Order) (P : Permutes n o) where
   abbrev Stands : Array Register → List Register → Type 0
   Stands x rs = (j : ℕ) → j < n → x j ≡ trimmed n (collectedAt o rs j)
 
-  reads-stand : (x : Array Register) (rs : List Register) (r : Register) (p : ℕ) → p < n → n ≤ length rs → length (take n (r .view)) ≡ n →
+  reads-stand : (x : Array Register) (rs : List Register) (r : Register) (p : ℕ) → p < n → n ≤ length rs →
+      length (take n (r .view)) ≡ n →
       Stands x rs → Stands (assigned x (o .register p) (trimmed n r)) (readInto n r p rs)
   reads-stand x rs r p l m full h j b =
       by-cases (ℕ-discrete j (o .register p))
@@ -100,45 +107,55 @@ module _ (n : ℕ) (o : Order) (a b : List Register) (x y : Array Register)
       ne-eqb (x j .seq) (y j .seq) (λ q. differs-true o a b j d (sym (ap (λ t. t .seq) (hx j l)) ∙ q ∙ ap (λ t. t .seq) (hy j l)))
 
   -- line 4
-  all-same : (k j : ℕ) → j + k ≤ n → ((i : ℕ) → i < n → differs o a b i ≡ false) → everyFrom (λ i. eqb (x i .seq) (y i .seq)) k j ≡ true
+  all-same : (k j : ℕ) → j + k ≤ n → ((i : ℕ) → i < n → differs o a b i ≡ false) →
+      everyFrom (λ i. eqb (x i .seq) (y i .seq)) k j ≡ true
   all-same zero j l h = refl
   all-same (suc k) j l h = ap₂ _&&_ (same-seq j (omega arith) (h j (omega arith))) (all-same k (suc j) (omega arith) h)
 
-  one-differs : (k j i : ℕ) → j ≤ i → i < j + k → i < n → differs o a b i ≡ true → everyFrom (λ i. eqb (x i .seq) (y i .seq)) k j ≡ false
+  one-differs : (k j i : ℕ) → j ≤ i → i < j + k → i < n → differs o a b i ≡ true →
+      everyFrom (λ i. eqb (x i .seq) (y i .seq)) k j ≡ false
   one-differs zero j i l m w d = absurd (omega arith)
   one-differs (suc k) j i l m w d =
       by-cases (ℕ-discrete i j)
       (λ q. ap (λ t. _&&_ t (everyFrom (λ i. eqb (x i .seq) (y i .seq)) k (suc j)))
       (ap (λ u. eqb (x u .seq) (y u .seq)) (sym q) ∙ other-seq i w d))
-      (λ q. ap (λ t. _&&_ (eqb (x j .seq) (y j .seq)) t) (one-differs k (suc j) i (omega arith) (omega arith) w d) ∙ and-false (eqb (x j .seq) (y j .seq)))
+      (λ q. ap (λ t. _&&_ (eqb (x j .seq) (y j .seq)) t) (one-differs k (suc j) i (omega arith) (omega arith) w d) ∙
+      and-false (eqb (x j .seq) (y j .seq)))
 
   -- one turn of the loop, where process j does not differ, or differs and is not marked
   search-passes : (k j : ℕ) (moved : Array ℕ) → j < n → differs o a b j ≡ false →
       search (suc k) j x y moved go finish ≡ search k (suc j) x y moved go finish
   unfolding search
   search-passes k j moved l d =
-      ap (λ t. cond t (search k (suc j) x y moved go finish) (cond (eqb (moved j) 1) (finish moved (suc j) (y j .at) (y j .view)) (search k (suc j) x y (assigned moved j (moved j + 1)) go finish)))
+      ap (λ t. cond t (search k (suc j) x y moved go finish)
+      (cond (eqb (moved j) 1) (finish moved (suc j) (y j .at) (y j .view))
+      (search k (suc j) x y (assigned moved j (moved j + 1)) go finish)))
       (same-seq j l d)
 
   search-sees : (k j : ℕ) (moved : Array ℕ) → j < n → differs o a b j ≡ true →
       search (suc k) j x y moved go finish
-      ≡ cond (eqb (moved j) 1) (finish moved (suc j) (y j .at) (y j .view)) (search k (suc j) x y (assigned moved j (moved j + 1)) go finish)
+      ≡ cond (eqb (moved j) 1) (finish moved (suc j) (y j .at) (y j .view))
+      (search k (suc j) x y (assigned moved j (moved j + 1)) go finish)
   unfolding search
   search-sees k j moved l d =
-      ap (λ t. cond t (search k (suc j) x y moved go finish) (cond (eqb (moved j) 1) (finish moved (suc j) (y j .at) (y j .view)) (search k (suc j) x y (assigned moved j (moved j + 1)) go finish)))
+      ap (λ t. cond t (search k (suc j) x y moved go finish)
+      (cond (eqb (moved j) 1) (finish moved (suc j) (y j .at) (y j .view))
+      (search k (suc j) x y (assigned moved j (moved j + 1)) go finish)))
       (other-seq j l d)
 
   search-sees-new : (k j : ℕ) (moved : Array ℕ) → j < n → differs o a b j ≡ true → moved j ≡ 0 →
       search (suc k) j x y moved go finish ≡ search k (suc j) x y (assigned moved j (moved j + 1)) go finish
   search-sees-new k j moved l d q =
       search-sees k j moved l d
-      ∙ ap (λ t. cond t (finish moved (suc j) (y j .at) (y j .view)) (search k (suc j) x y (assigned moved j (moved j + 1)) go finish)) (ne-eqb (moved j) 1 (λ w. omega arith))
+      ∙ ap (λ t. cond t (finish moved (suc j) (y j .at) (y j .view))
+      (search k (suc j) x y (assigned moved j (moved j + 1)) go finish)) (ne-eqb (moved j) 1 (λ w. omega arith))
 
   search-sees-marked : (k j : ℕ) (moved : Array ℕ) → j < n → differs o a b j ≡ true → moved j ≡ 1 →
       search (suc k) j x y moved go finish ≡ finish moved (suc j) (y j .at) (y j .view)
   search-sees-marked k j moved l d q =
       search-sees k j moved l d
-      ∙ ap (λ t. cond t (finish moved (suc j) (y j .at) (y j .view)) (search k (suc j) x y (assigned moved j (moved j + 1)) go finish)) (eq-eqb (moved j) 1 q)
+      ∙ ap (λ t. cond t (finish moved (suc j) (y j .at) (y j .view))
+      (search k (suc j) x y (assigned moved j (moved j + 1)) go finish)) (eq-eqb (moved j) 1 q)
 
   -- the search passes c processes that do not lend: who differs of them is marked
   abbrev Walked : (k c j : ℕ) → List Bool → Array ℕ → Type 0
@@ -158,9 +175,11 @@ module _ (n : ℕ) (o : Order) (a b : List Register) (x y : Array Register)
   search-walks (suc k) (suc c) j ms moved few l w h u =
       bool-cases (differs o a b j)
       (λ d.
-      marks d (search-walks k c (suc j) (withMoved ms j) (assigned moved j (moved j + 1)) (omega arith) (omega arith) (long (omega arith))
+      marks d (search-walks k c (suc j) (withMoved ms j) (assigned moved j (moved j + 1)) (omega arith) (omega arith)
+      (long (omega arith))
       (fresh d) (λ i v m e. moved-other ms i j (λ q. omega arith) ∙ u i (omega arith) (omega arith) e)))
-      (λ d. passes d (search-walks k c (suc j) ms moved (omega arith) (omega arith) w h (λ i v m. u i (omega arith) (omega arith))))
+      (λ d. passes d (search-walks k c (suc j) ms moved (omega arith) (omega arith) w h
+      (λ i v m. u i (omega arith) (omega arith))))
     where
       long : n ≤ length ms → n ≤ length (withMoved ms j)
       long z = let q = length-with-moved ms j in omega arith
@@ -170,7 +189,8 @@ module _ (n : ℕ) (o : Order) (a b : List Register) (x y : Array Register)
           by-cases (ℕ-discrete i j)
           (λ q.
           let zero-before : moved j ≡ 0 = h j (omega arith) ∙ ap mark (u j (omega arith) (omega arith) d) in
-          assigned-same moved i j (moved j + 1) q ∙ omega arith ∙ sym (ap mark (ap (isMoved (withMoved ms j)) q ∙ moved-same ms j (omega arith))))
+          assigned-same moved i j (moved j + 1) q ∙ omega arith ∙
+          sym (ap mark (ap (isMoved (withMoved ms j)) q ∙ moved-same ms j (omega arith))))
           (λ q. assigned-other moved i j (moved j + 1) q ∙ h i m ∙ ap mark (sym (moved-other ms i j q)))
 
       further : (m : Array ℕ) → search (k - c) (suc j + c) x y m go finish ≡ search (suc k - suc c) (j + suc c) x y m go finish
@@ -179,10 +199,12 @@ module _ (n : ℕ) (o : Order) (a b : List Register) (x y : Array Register)
           let here : suc j + c ≡ j + suc c = omega arith in
           ap₂ (λ k i. search k i x y m go finish) left here
 
-      marks : differs o a b j ≡ true → Walked k c (suc j) (withMoved ms j) (assigned moved j (moved j + 1)) → Walked (suc k) (suc c) j ms moved
+      marks : differs o a b j ≡ true → Walked k c (suc j) (withMoved ms j) (assigned moved j (moved j + 1)) →
+          Walked (suc k) (suc c) j ms moved
       marks d r = (
         r .0,
-        search-sees-new k j moved (omega arith) d (h j (omega arith) ∙ ap mark (u j (omega arith) (omega arith) d)) ∙ r .1 ∙ further (r .0),
+        search-sees-new k j moved (omega arith) d (h j (omega arith) ∙ ap mark (u j (omega arith) (omega arith) d)) ∙ r .1 ∙
+            further (r .0),
         (λ i m. r .2 i m ∙ sym (ap (λ t. mark (isMoved (markFrom (differs o a b) c (suc j) (cond t (withMoved ms j) ms)) i)) d)),
       )
 
@@ -230,7 +252,8 @@ turns-of : (K : Job) (t : ℕ) → turnsOf (taskOf K t) ≡ t
 turns-of scan t = refl
 turns-of (update register w) t = refl
 
-reads-of : (o : Order) (n : ℕ) (K : Job) (t pos place : ℕ) → position n t ≡ pos → placeAt n pos ≡ place → reads o n (taskOf K t) ≡ some (o .register place)
+reads-of : (o : Order) (n : ℕ) (K : Job) (t pos place : ℕ) → position n t ≡ pos → placeAt n pos ≡ place →
+    reads o n (taskOf K t) ≡ some (o .register place)
 reads-of o n scan t pos place q r = ap {B = Option ℕ} (λ k. some (o .register k)) (ap (placeAt n) q ∙ r)
 reads-of o n (update register w) t pos place q r = ap {B = Option ℕ} (λ k. some (o .register k)) (ap (placeAt n) q ∙ r)
 
@@ -248,7 +271,8 @@ module _ (n : ℕ) (o : Order) (now : ℕ) (r : Register) (pg : List ℕ) (p : P
   turned-by t scan = refl
   turned-by t (update register w) = refl
 
-  turned-reads : (K : Job) (t pos : ℕ) (f : Option (Found ℕ)) → p .task ≡ taskOf K t → position n t ≡ pos → foundBy o n now pos r p ≡ f →
+  turned-reads : (K : Job) (t pos : ℕ) (f : Option (Found ℕ)) → p .task ≡ taskOf K t → position n t ≡ pos →
+      foundBy o n now pos r p ≡ f →
       turned o n now r pg p ≡ readTurn t f K
   unfolding turned
   turned-reads K t pos f task at q =
@@ -276,7 +300,8 @@ trimmed-written n w at s p ws q v l =
     trimmed-laid n (record { word = w; seq = p .register .seq + 1; view = p .view; at = at }) (p .register) (ap length v ∙ l)
     ∙ ap₂ (λ k u. record { word = w; seq = k + 1; view = u; at = at }) q v
 
-module _ (n : ℕ) (o : Order) (now : ℕ) (r : Register) (pg : List ℕ) (p : Process) (t s : ℕ) (f : Found ℕ) (own : p .register .seq ≡ s)
+module _ (n : ℕ) (o : Order) (now : ℕ) (r : Register) (pg : List ℕ) (p : Process) (t s : ℕ) (f : Found ℕ)
+    (own : p .register .seq ≡ s)
     (full : length (f .words) ≡ n) (v : Variables)
     (has : (k : Task) (u : List ℕ) → Remembers o n v (afterRead o n now (position n t) r p k u)) where
   -- the procedure returns to its caller, or goes on to its write
@@ -293,7 +318,8 @@ module _ (n : ℕ) (o : Order) (now : ℕ) (r : Register) (pg : List ℕ) (p : P
       (λ now′ r′ pg′. (
         ap Written (ap (λ k. k + 1) (add-one t) ∙ add-one (suc t)),
         refl,
-        trimmed-written n w (f .instant) s (afterRead o n now (position n t) r p (Ready w (f .instant) (t + 1)) (over n (f .words) (p .view)))
+        trimmed-written n w (f .instant) s (afterRead o n now (position n t) r p (Ready w (f .instant) (t + 1))
+            (over n (f .words) (p .view)))
             (f .words) own (take-over-all n (f .words) (p .view) full) full,
         refl,
       )),
@@ -302,14 +328,17 @@ module _ (n : ℕ) (o : Order) (now : ℕ) (r : Register) (pg : List ℕ) (p : P
 
 -- ---- a turn that goes on
 
-register-kept : (o : Order) (n now pos : ℕ) (r : Register) (p : Process) (k : Task) (v : List ℕ) → afterRead o n now pos r p k v .register ≡ p .register
+register-kept : (o : Order) (n now pos : ℕ) (r : Register) (p : Process) (k : Task) (v : List ℕ) →
+    afterRead o n now pos r p k v .register ≡ p .register
 unfolding afterRead
 register-kept o n now pos r p k v = refl
 
 -- what is left of the rounds is a read, or nothing
-after-while : (o : Order) (n : ℕ) → 0 < n → (F : Variables → ℕ → ℕ → List ℕ → Procedure) (k : ℕ) (moved : Array ℕ) (x y : Array Register) (e t : ℕ) (p : Process) (pg : List ℕ)
+after-while : (o : Order) (n : ℕ) → 0 < n → (F : Variables → ℕ → ℕ → List ℕ → Procedure) (k : ℕ) (moved : Array ℕ)
+    (x y : Array Register) (e t : ℕ) (p : Process) (pg : List ℕ)
     (p′ : Process) → p′ .register ≡ p .register → Does o n (whileTrue o n F k moved x y e) t p′ →
-    After o n (Does o n (whileTrue o n F k moved x y e) t) t p pg (record { state = p′; answer = Read; page = pg }) (whileTrue o n F k moved x y e)
+    After o n (Does o n (whileTrue o n F k moved x y e) t) t p pg (record { state = p′; answer = Read; page = pg })
+    (whileTrue o n F k moved x y e)
 unfolding whileTrue collect
 after-while o zero z F k moved x y e t p pg p′ q does = absurd (omega arith)
 after-while o (suc n) z F zero moved x y e t p pg p′ q does = does
@@ -346,7 +375,8 @@ module _ (n : ℕ) (o : Order) (P : Permutes n o) (z : 0 < n) (eight : n ≤ 8) 
 
   -- ---- a read that ends no double collect
 
-  module _ (now : ℕ) (r : Register) (full : length (r .view) ≡ 8) (p : Process) (t : ℕ) (moved : Array ℕ) (x y : Array Register) (e : ℕ)
+  module _ (now : ℕ) (r : Register) (full : length (r .view) ≡ 8) (p : Process) (t : ℕ) (moved : Array ℕ) (x y : Array Register)
+      (e : ℕ)
       (A : At p t (vars moved x y e)) where
     waits : (pos : ℕ) → pos + 1 ≢ 2 * n → foundBy o n now pos r p ≡ none
     unfolding foundBy
@@ -369,7 +399,8 @@ module _ (n : ℕ) (o : Order) (P : Permutes n o) (z : 0 < n) (eight : n ≤ 8) 
           remembers =
               record {
                 moved = λ j l. A .remembers .moved j l
-                    ∙ sym (ap (λ v. mark (isMoved (markFrom (differs o a c) (passed n v) 0 (p .moved)) j)) (decision-waits n o pos a c (p .moved) h));
+                    ∙ sym (ap (λ v. mark (isMoved (markFrom (differs o a c) (passed n v) 0 (p .moved)) j))
+                    (decision-waits n o pos a c (p .moved) h));
                 a = hx;
                 b = hy;
                 ended = he;
@@ -380,7 +411,8 @@ module _ (n : ℕ) (o : Order) (P : Permutes n o) (z : 0 < n) (eight : n ≤ 8) 
         }
 
     at-first : (q e′ : ℕ) → q < n → e′ ≡ endAfter n q now (p .«first_end») →
-        At (afterRead o n now q r p (taskOf K (t + 1)) (p .view)) (suc t) (vars moved (assigned x (o .register q) (trimmed n r)) y e′)
+        At (afterRead o n now q r p (taskOf K (t + 1)) (p .view)) (suc t)
+        (vars moved (assigned x (o .register q) (trimmed n r)) y e′)
     at-first q e′ l he =
         at-onward q (assigned x (o .register q) (trimmed n r)) y e′ (λ w. omega arith)
         (subst (λ rs. Stands n o P (assigned x (o .register q) (trimmed n r)) rs) (sym (first-reads n r q (p .first) l))
@@ -389,7 +421,8 @@ module _ (n : ℕ) (o : Order) (P : Permutes n o) (z : 0 < n) (eight : n ≤ 8) 
         he
         (A .wide)
 
-    stands-second : (q : ℕ) → q < n → Stands n o P (assigned y (o .register q) (trimmed n r)) (secondAfter n (n + q) r (p .second))
+    stands-second : (q : ℕ) → q < n → Stands n o P (assigned y (o .register q) (trimmed n r))
+        (secondAfter n (n + q) r (p .second))
     stands-second q l =
         subst (λ rs. Stands n o P (assigned y (o .register q) (trimmed n r)) rs) (sym (second-reads n r q (p .second)))
         (reads-stand n o P y (p .second) r q l (omega (arith, A .sized .seconds)) (view-full r full) (A .remembers .b))
@@ -408,18 +441,22 @@ module _ (n : ℕ) (o : Order) (P : Permutes n o) (z : 0 < n) (eight : n ≤ 8) 
     ended-waits pos h = A .remembers .ended ∙ sym (end-waits n pos now (p .«first_end») h)
 
     at-second : (q : ℕ) → q + 1 < n →
-        At (afterRead o n now (n + q) r p (taskOf K (t + 1)) (p .view)) (suc t) (vars moved x (assigned y (o .register q) (trimmed n r)) e)
+        At (afterRead o n now (n + q) r p (taskOf K (t + 1)) (p .view)) (suc t)
+        (vars moved x (assigned y (o .register q) (trimmed n r)) e)
     at-second q l =
-        at-onward (n + q) x (assigned y (o .register q) (trimmed n r)) e (λ w. omega arith) (stands-first q) (stands-second q (omega arith))
+        at-onward (n + q) x (assigned y (o .register q) (trimmed n r)) e (λ w. omega arith) (stands-first q)
+        (stands-second q (omega arith))
         (ended-waits (n + q) (λ w. omega arith)) (wide-second q)
 
     onwards : (pg : List ℕ) (pos : ℕ) → position n t ≡ pos → pos + 1 ≢ 2 * n →
         (k q : ℕ) (v : Array Register → Variables) (last : ℕ) (w : Array Register) (next : ℕ → Array Register → Procedure) →
         Does o n (collect o (suc k) q v last w next) (suc t) (afterRead o n now pos r p (taskOf K (t + 1)) (p .view)) →
-        After o n (Does o n (collect o (suc k) q v last w next) (suc t)) (suc t) p pg (turned o n now r pg p) (collect o (suc k) q v last w next)
+        After o n (Does o n (collect o (suc k) q v last w next) (suc t)) (suc t) p pg (turned o n now r pg p)
+        (collect o (suc k) q v last w next)
     unfolding collect
     onwards pg pos at h k q v last w next does =
-        subst (λ X. After o n (Does o n (collect o (suc k) q v last w next) (suc t)) (suc t) p pg X (collect o (suc k) q v last w next))
+        subst (λ X. After o n (Does o n (collect o (suc k) q v last w next) (suc t)) (suc t) p pg X
+        (collect o (suc k) q v last w next))
         (sym (turned-onward n o now r pg p K t pos (A .task) at (waits pos h)))
         (refl, refl, register-kept o n now pos r p (taskOf K (t + 1)) (p .view), does)
 
@@ -438,9 +475,11 @@ module _ (n : ℕ) (o : Order) (P : Permutes n o) (z : 0 < n) (eight : n ≤ 8) 
       end′ : ℕ
       end′ = endAfter n (n + q) now (p .«first_end»)
 
-      falls : (v : Verdict) → verdict n (differs o a′ c′) (lends (differs o a′ c′) (p .moved)) ≡ v → foundBy o n now (n + q) r p ≡ found o n c′ end′ (some v)
+      falls : (v : Verdict) → verdict n (differs o a′ c′) (lends (differs o a′ c′) (p .moved)) ≡ v →
+          foundBy o n now (n + q) r p ≡ found o n c′ end′ (some v)
       unfolding foundBy a′ c′ end′
-      falls v h = ap (found o n c′ end′) (decision-falls n o (n + q) a′ c′ (p .moved) (omega arith) ∙ ap {B = Option Verdict} some h)
+      falls v h = ap (found o n c′ end′) (decision-falls n o (n + q) a′ c′ (p .moved) (omega arith) ∙
+          ap {B = Option Verdict} some h)
 
       lines : ℕ → Procedure
       lines k = closing k moved x e now y′
@@ -475,13 +514,16 @@ module _ (n : ℕ) (o : Order) (P : Permutes n o) (z : 0 < n) (eight : n ≤ 8) 
           let v = vars m′ x y′ e in
           let F = finishOf K s v (f .lender) (f .instant) (f .words) in
           subst (λ Q. After o n (Does o n Q (suc t)) (suc t) p pg (turned o n now r pg p) Q) (sym same)
-          (subst (λ X. After o n (Does o n F (suc t)) (suc t) p pg X F) (sym (turned-reads n o now r pg p K t (n + q) (some f) (A .task) at found-f))
+          (subst (λ X. After o n (Does o n F (suc t)) (suc t) p pg X F)
+          (sym (turned-reads n o now r pg p K t (n + q) (some f) (A .task) at found-f))
           (found-after n o now r pg p t s f (A .seq) wide-f v
           (λ k u. subst (λ pos. Remembers o n v (afterRead o n now pos r p k u)) (sym at) (has k u)) K))
 
       -- no page was found, and the procedure goes on with the marks m′
-      continues : (k : ℕ) (m′ : Array ℕ) → foundBy o n now (n + q) r p ≡ none → lines k ≡ whileTrue o n (finishOf K s) k m′ x y′ e →
-          Does o n (whileTrue o n (finishOf K s) k m′ x y′ e) (suc t) (afterRead o n now (n + q) r p (taskOf K (t + 1)) (p .view)) → Ending k
+      continues : (k : ℕ) (m′ : Array ℕ) → foundBy o n now (n + q) r p ≡ none →
+          lines k ≡ whileTrue o n (finishOf K s) k m′ x y′ e →
+          Does o n (whileTrue o n (finishOf K s) k m′ x y′ e) (suc t)
+          (afterRead o n now (n + q) r p (taskOf K (t + 1)) (p .view)) → Ending k
       unfolding Ending
       continues k m′ found-none same does =
           let Q = whileTrue o n (finishOf K s) k m′ x y′ e in
@@ -489,7 +531,8 @@ module _ (n : ℕ) (o : Order) (P : Permutes n o) (z : 0 < n) (eight : n ≤ 8) 
           subst (λ Q. After o n (Does o n Q (suc t)) (suc t) p pg (turned o n now r pg p) Q) (sym same)
           (subst (λ X. After o n (Does o n Q (suc t)) (suc t) p pg X Q)
           (sym (turned-onward n o now r pg p K t (n + q) (A .task) at found-none))
-          (after-while o n z (finishOf K s) k m′ x y′ e (suc t) p pg p′ (register-kept o n now (n + q) r p (taskOf K (t + 1)) (p .view)) does))
+          (after-while o n z (finishOf K s) k m′ x y′ e (suc t) p pg p′
+          (register-kept o n now (n + q) r p (taskOf K (t + 1)) (p .view)) does))
 
       -- the record after a double collect without a page
       at-again : (m′ : Array ℕ) → ((k : Task) (u : List ℕ) → Remembers o n (vars m′ x y′ e) (afterRead o n now (n + q) r p k u)) →
@@ -521,7 +564,8 @@ module _ (n : ℕ) (o : Order) (P : Permutes n o) (z : 0 < n) (eight : n ≤ 8) 
       unfolding a′ c′ y′
       tests-false k j l d =
           tests k false
-          (one-differs n o a′ c′ x y′ (stands-first q) (stands-second q (omega arith)) finish (goes k) n 0 j (omega arith) (omega arith) l d)
+          (one-differs n o a′ c′ x y′ (stands-first q) (stands-second q (omega arith)) finish (goes k) n 0 j (omega arith)
+          (omega arith) l d)
 
       ends-clean : (k : ℕ) → verdict n (differs o a′ c′) (lends (differs o a′ c′) (p .moved)) ≡ clean →
           ((j : ℕ) → j < n → differs o a′ c′ j ≡ false) → Ending k
@@ -529,7 +573,8 @@ module _ (n : ℕ) (o : Order) (P : Permutes n o) (z : 0 < n) (eight : n ≤ 8) 
       ends-clean k is h =
           finishes k (record { words = pageOf o n c′; instant = end′; lender = 0 }) moved (falls clean is) (page-of-long o n c′)
           (remembers-after moved clean is (A .remembers .moved))
-          (tests k true (all-same n o a′ c′ x y′ (stands-first q) (stands-second q (omega arith)) finish (goes k) n 0 (omega arith) h)
+          (tests k true (all-same n o a′ c′ x y′ (stands-first q) (stands-second q (omega arith)) finish (goes k) n 0
+          (omega arith) h)
           ∙ ap₂ (finish moved 0) (ended-waits (n + q) (λ w. omega arith)) (page-each n o P y′ c′ (stands-second q (omega arith))))
 
       -- the search ended at j, with the marks m′
@@ -540,13 +585,15 @@ module _ (n : ℕ) (o : Order) (P : Permutes n o) (z : 0 < n) (eight : n ≤ 8) 
           × ((i : ℕ) → i < n → m′ i ≡ mark (isMoved (markFrom (differs o a′ c′) j 0 (p .moved)) i)) → Ending k
       unfolding c′ y′ finish
       ends-lent k j l is searches (m′, left, marks) =
-          finishes k (record { words = viewed n (collectedAt o c′ j); instant = collectedAt o c′ j .at; lender = j + 1 }) m′ (falls (lent j) is)
+          finishes k (record { words = viewed n (collectedAt o c′ j); instant = collectedAt o c′ j .at; lender = j + 1 }) m′
+          (falls (lent j) is)
           (ap (λ u. length (u .view)) (sym (stands-second q (omega arith) j l)) ∙ wide-second q j l)
           (remembers-after m′ (lent j) is marks)
           (searches ∙ left ∙ ap₂ (λ i u. finish m′ i (u .at) (u .view)) (sym (add-one j)) (stands-second q (omega arith) j l))
 
       abbrev Again : ℕ → Type 0
-      Again k = (moved : Array ℕ) (p : Process) → At p (suc t) (vars moved x y′ e) → Does o n (whileTrue o n (finishOf K s) k moved x y′ e) (suc t) p
+      Again k = (moved : Array ℕ) (p : Process) → At p (suc t) (vars moved x y′ e) →
+          Does o n (whileTrue o n (finishOf K s) k moved x y′ e) (suc t) p
 
       ends-again : (k : ℕ) → Again k → verdict n (differs o a′ c′) (lends (differs o a′ c′) (p .moved)) ≡ again →
           lines k ≡ search n 0 x y′ moved (goes k) finish →
@@ -573,7 +620,8 @@ module _ (n : ℕ) (o : Order) (P : Permutes n o) (z : 0 < n) (eight : n ≤ 8) 
 
       ending : (k : ℕ) → Again k → Ending k
       ending k rest =
-          ends k rest (verdict n (differs o a′ c′) (lends (differs o a′ c′) (p .moved))) refl (verdict-ends n (differs o a′ c′) (lends (differs o a′ c′) (p .moved)))
+          ends k rest (verdict n (differs o a′ c′) (lends (differs o a′ c′) (p .moved))) refl
+          (verdict-ends n (differs o a′ c′) (lends (differs o a′ c′) (p .moved)))
 
   -- ---- the whole procedure
 
@@ -585,7 +633,8 @@ module _ (n : ℕ) (o : Order) (P : Permutes n o) (z : 0 < n) (eight : n ≤ 8) 
 
   -- the second collect, with k + 1 registers to read, from place q on, in round m
   second-does : (f m k q : ℕ) → suc k + q ≡ n → Rounds f (suc m) →
-      (t : ℕ) (moved : Array ℕ) (x y : Array Register) (e last : ℕ) (p : Process) → t ≡ m * (2 * n) + (n + q) → At p t (vars moved x y e) →
+      (t : ℕ) (moved : Array ℕ) (x y : Array Register) (e last : ℕ) (p : Process) → t ≡ m * (2 * n) + (n + q) →
+      At p t (vars moved x y e) →
       Does o n (collect o (suc k) q (λ b. vars moved x b e) last y (closing f moved x e)) t p
   unfolding Does collect Ending lines y′
   second-does f m zero q l rest t moved x y e last p c A = (
@@ -606,7 +655,8 @@ module _ (n : ℕ) (o : Order) (P : Permutes n o) (z : 0 < n) (eight : n ≤ 8) 
     (λ now r pg full. onwards now r full p t moved x y e A pg (n + q) (position-of m (n + q) t c (omega arith)) (λ w. omega arith)
         k (suc q) (λ b. vars moved x b e) now (assigned y (o .register q) (trimmed n r)) (closing f moved x e)
         (second-does f m k (suc q) (omega arith) rest (suc t) moved x (assigned y (o .register q) (trimmed n r)) e now
-        (afterRead o n now (n + q) r p (taskOf K (t + 1)) (p .view)) (omega arith) (at-second now r full p t moved x y e A q (omega arith)))),
+        (afterRead o n now (n + q) r p (taskOf K (t + 1)) (p .view)) (omega arith)
+        (at-second now r full p t moved x y e A q (omega arith)))),
   )
 
   -- the first collect, and then the second
@@ -614,7 +664,8 @@ module _ (n : ℕ) (o : Order) (P : Permutes n o) (z : 0 < n) (eight : n ≤ 8) 
   after-first f moved y e x = collect o n 0 (λ b. vars moved x b e) e y (closing f moved x e)
 
   first-does : (f m k q : ℕ) → suc k + q ≡ n → Rounds f (suc m) →
-      (t : ℕ) (moved : Array ℕ) (x y : Array Register) (e last : ℕ) (p : Process) → t ≡ m * (2 * n) + q → At p t (vars moved x y e) →
+      (t : ℕ) (moved : Array ℕ) (x y : Array Register) (e last : ℕ) (p : Process) → t ≡ m * (2 * n) + q →
+      At p t (vars moved x y e) →
       Does o n (collect o (suc k) q (λ a. vars moved a y e) last x (after-first f moved y)) t p
   unfolding Does collect
   first-does f m zero q l rest t moved x y e last p c A = (
@@ -626,11 +677,14 @@ module _ (n : ℕ) (o : Order) (P : Permutes n o) (z : 0 < n) (eight : n ≤ 8) 
     (λ now r pg full.
         let x′ : Array Register = assigned x (o .register q) (trimmed n r) in
         let hold : Array Register → Variables = λ b. vars moved x′ b now in
-        subst (λ k. After o n (Does o n (collect o k 0 hold now y (closing f moved x′ now)) (suc t)) (suc t) p pg (turned o n now r pg p)
+        subst (λ k. After o n (Does o n (collect o k 0 hold now y (closing f moved x′ now)) (suc t)) (suc t) p pg
+        (turned o n now r pg p)
         (collect o k 0 hold now y (closing f moved x′ now)))
         (suc-is l)
-        (onwards now r full p t moved x y e A pg q (position-of m q t c (omega arith)) (λ w. omega arith) q 0 hold now y (closing f moved x′ now)
-        (second-does f m q 0 (omega arith) rest (suc t) moved x′ y now now (afterRead o n now q r p (taskOf K (t + 1)) (p .view)) (omega arith)
+        (onwards now r full p t moved x y e A pg q (position-of m q t c (omega arith)) (λ w. omega arith) q 0 hold now y
+        (closing f moved x′ now)
+        (second-does f m q 0 (omega arith) rest (suc t) moved x′ y now now
+        (afterRead o n now q r p (taskOf K (t + 1)) (p .view)) (omega arith)
         (at-first now r full p t moved x y e A q now (omega arith) (sym (end-reads n q now (p .«first_end») (omega arith))))))),
   )
     where
@@ -646,7 +700,8 @@ module _ (n : ℕ) (o : Order) (P : Permutes n o) (z : 0 < n) (eight : n ≤ 8) 
         k (suc q) (λ a. vars moved a y e) now (assigned x (o .register q) (trimmed n r)) (after-first f moved y)
         (first-does f m k (suc q) (omega arith) rest (suc t) moved (assigned x (o .register q) (trimmed n r)) y e now
         (afterRead o n now q r p (taskOf K (t + 1)) (p .view)) (omega arith)
-        (at-first now r full p t moved x y e A q e (omega arith) (ended-waits now r full p t moved x y e A q (λ w. omega arith))))),
+        (at-first now r full p t moved x y e A q e (omega arith)
+        (ended-waits now r full p t moved x y e A q (λ w. omega arith))))),
   )
 
   -- every round, from its start on
@@ -668,7 +723,8 @@ cleared-stands n o P eight rs l j b =
     let zeros = map (laid n zeroRegister) rs in
     let long : length (take n zeros) ≡ n = length-take-le n zeros (let q = length-map rs (laid n zeroRegister) in omega arith) in
     sym
-    (ap (trimmed n) (getD-over n zeros rs i noRegister long (P .place-within j b) ∙ getD-map-below (laid n zeroRegister) rs i noRegister noRegister (below (P .place-within j b)))
+    (ap (trimmed n) (getD-over n zeros rs i noRegister long (P .place-within j b) ∙
+    getD-map-below (laid n zeroRegister) rs i noRegister noRegister (below (P .place-within j b)))
     ∙ trimmed-zero (getD rs i noRegister))
   where
     below : o .place j < n → o .place j < length rs
@@ -704,13 +760,15 @@ module _ (n : ℕ) (o : Order) (P : Permutes n o) (z : 0 < n) (eight : n ≤ 8) 
   scan-does : (k : ℕ) → Does o n (scanProcedure o n k) 0 (begin n (Scan 0) p)
   unfolding scanFor
   scan-does k =
-      while-does n o P z eight scan (p .register .seq) k 0 0 (λ j. 0) no-registers no-registers 0 (begin n (Scan 0) p) (omega arith)
+      while-does n o P z eight scan (p .register .seq) k 0 0 (λ j. 0) no-registers no-registers 0 (begin n (Scan 0) p)
+      (omega arith)
       (called-at scan)
 
   update-does : (k w : ℕ) → Does o n (updateProcedure o n k w (p .register .seq)) 0 (begin n (Update w 0) p)
   unfolding scanFor
   update-does k w =
-      while-does n o P z eight (update 0 w) (p .register .seq) k 0 0 (λ j. 0) no-registers no-registers 0 (begin n (Update w 0) p) (omega arith)
+      while-does n o P z eight (update 0 w) (p .register .seq) k 0 0 (λ j. 0) no-registers no-registers 0
+      (begin n (Update w 0) p) (omega arith)
       (called-at (update 0 w))
 
   -- from its call on, the turns of a scan are Figure 3's scan, and those of an update its update, for any number k of rounds

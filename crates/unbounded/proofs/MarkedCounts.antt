@@ -143,7 +143,8 @@ module _ (n : ℕ) (z : 0 < n) (eight : n ≤ 8) where
       some-of-none (λ p. unsound (mostReads n) 1 p) (tableWith scanner) noProcess
       (λ i l. by-cases (ℕ-discrete i 0)
       (λ q.
-      ap (λ j. unsound (mostReads n) 1 (getD (tableWith scanner) j noProcess)) q ∙ ap (unsound (mostReads n) 1) (first-with scanner)
+      ap (λ j. unsound (mostReads n) 1 (getD (tableWith scanner) j noProcess)) q ∙
+      ap (unsound (mostReads n) 1) (first-with scanner)
       ∙ lt-leb (mostReads n) 0 (let m = mul-pos z z in omega arith))
       (λ q.
       let b : i < n = omega (arith, length-with scanner) in

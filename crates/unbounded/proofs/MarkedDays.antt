@@ -9,7 +9,8 @@ use Rattle.snapshot.specs.Verdict.{verdict}
 use Rattle.snapshot.specs.Marks.{isMoved, withMoved, lends}
 use Rattle.unbounded.specs.Registers.{laid, readInto, cleared, pageOf, differs}
 use Rattle.unbounded.specs.Processes.{begin}
-use Rattle.unbounded.specs.Turns.{position, placeAt, firstAfter, secondAfter, endAfter, decision, marksAfter, afterRead, foundBy, written, turned}
+use Rattle.unbounded.specs.Turns.{position, placeAt, firstAfter, secondAfter, endAfter, decision, marksAfter, afterRead}
+use Rattle.unbounded.specs.Turns.{foundBy, written, turned}
 use Rattle.unbounded.specs.Days.{mostReads, unsound}
 use Rattle.unbounded.specs.MarkedDays.{MarkedDay, played, dayG, dayH, fixedDays, markedDays}
 use Rattle.unbounded.proofs.MarkedCounts.{day-g-follows, day-h-follows}
@@ -18,7 +19,9 @@ abbrev expected : MarkedDay → List (Reply ℕ)
 expected d = d .expected
 
 fixed-days-follow : map played fixedDays ≡ map expected fixedDays
-unfolding fixedDays step isFull refusal openedBy advance calledBy turnBy accept verdict isMoved withMoved lends laid readInto cleared pageOf differs begin position placeAt firstAfter secondAfter endAfter decision marksAfter afterRead foundBy written turned mostReads unsound
+unfolding fixedDays step isFull refusal openedBy advance calledBy turnBy accept verdict isMoved withMoved lends laid readInto
+    cleared pageOf differs begin position placeAt firstAfter secondAfter endAfter decision marksAfter afterRead foundBy written
+    turned mostReads unsound
 fixed-days-follow = refl
 
 pub marked-days-follow : (n : ℕ) → 0 < n → n ≤ 8 → map played (markedDays n) ≡ map expected (markedDays n)

@@ -19,7 +19,8 @@ module _ (n : ℕ) (r : Register) (i : ℕ) (rs : List Register) where
   unfolding readInto
   length-read-into = length-set rs i (laid n r (getD rs i noRegister))
 
-  pub read-into-same : i < length rs → length (take n (r .view)) ≡ n → trimmed n (getD (readInto n r i rs) i noRegister) ≡ trimmed n r
+  pub read-into-same : i < length rs → length (take n (r .view)) ≡ n →
+      trimmed n (getD (readInto n r i rs) i noRegister) ≡ trimmed n r
   unfolding readInto
   read-into-same l m =
       ap (trimmed n) (getD-set-same rs i (laid n r (getD rs i noRegister)) noRegister l)

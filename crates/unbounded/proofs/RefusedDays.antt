@@ -9,5 +9,6 @@ use Rattle.unbounded.specs.Days.{mostReads, unsound}
 use Rattle.unbounded.specs.RefusedDays.{replied, refusedDays}
 
 pub refused-days-follow : map replied refusedDays ≡ map (λ d. d .expected) refusedDays
-unfolding refusedDays step isFull refusal openedBy advance calledBy turnBy accept begin position decision afterRead foundBy turned mostReads unsound
+unfolding refusedDays step isFull refusal openedBy advance calledBy turnBy accept begin position decision afterRead foundBy
+    turned mostReads unsound
 refused-days-follow = refl
