@@ -1,6 +1,5 @@
 -- A local table of eight records, of which the first ones are lent as a slice: its cell is taken apart into the row of the
--- first m and
--- the row of the rest (`table-out`), and put together again (`table-back`).
+-- first m and the row of the rest (`table-out`), and put together again (`table-back`).
 use mathlib.Core.Path.{_≡_, sym, subst, _∙_}
 use Prim.Native.Nat.{ℕ, zero, suc, _+_, _≤_}
 use native.Mathlib.Nat.{lt-of-le-of-lt, mul-le-mul-right}

@@ -1,6 +1,5 @@
 -- The types of this register's code as plain data that walks carry whole: a walk knows no part of them. Only a process record's
--- register
--- and task have rules of their own (`register-field`, `task-field`), because a turn stores these two in place.
+-- register and task have rules of their own (`register-field`, `task-field`), because a turn stores these two in place.
 use mathlib.Core.Path.{refl}
 use mathlib.Core.List.{[], _∷_}
 use denote.Struct.Laws as SL

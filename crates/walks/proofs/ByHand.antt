@@ -23,8 +23,7 @@ use denote.Steps.{owned}
 use Rattle.walks.proofs.Data.{Datum, Of, type-of}
 
 -- what follows the first statement of a body, and what follows its first n statements. A long turn of a loop is walked in
--- parts, each
--- from the body that is left (`after`): as one, it is past the checker's limit
+-- parts, each from the body that is left (`after`): as one, it is past the checker's limit
 abbrev second : Body → Body
 second skip = skip
 second (seq c d) = d

@@ -1,8 +1,6 @@
 -- What is lent for a call, and comes back from it: a row of elements as a `&[T]` or a `&mut [T]`, and one element as a `&mut
--- T`, each for a
--- lifetime that is made for the call. And the calls of a walk by hand, which is told what the callee asks and says: of a
--- function of plain
--- data, with a `&[T]` passed on, with two rows lent, and with one shared and one lent.
+-- T`, each for a lifetime that is made for the call. And the calls of a walk by hand, which is told what the callee asks and
+-- says: of a function of plain data, with a `&[T]` passed on, with two rows lent, and with one shared and one lent.
 use mathlib.Core.Path.{_≡_, refl, sym, ap, subst}
 use Prim.Native.Nat.{ℕ}
 use mathlib.Core.List.{List, [], _∷_}
@@ -127,11 +125,9 @@ module _ {M : Type 1} {𝓤 : URA M} {H : Heap 𝓤} {A : Atoms 𝓤} {K : Type 
       fsplit t $ feqL t (λ l. use1 W (‵ (row T fullShare us b o)) (whole-out 𝓤 H A W T us b o) $ k l)
 
 -- c is the callee's contract, x what it binds outside, and `pre` that what is handed to it gives what it asks. What it ensures
--- is told by the
--- clauses cl of the callee N, at the lifetimes κs, the arguments a and what they bind besides, g, so that a walk says only what
--- follows
--- from them (`into`, the identity, has the answer be the callee's result); where there are last values, it is told whole, as
--- `ens`
+-- is told by the clauses cl of the callee N, at the lifetimes κs, the arguments a and what they bind besides, g, so that a walk
+-- says only what follows from them (`into`, the identity, has the answer be the callee's result); where there are last values,
+-- it is told whole, as `ens`
 module _ {M : Type 1} {𝓤 : URA M} {H : Heap 𝓤} {A : Atoms 𝓤} {K : Type 0} {W : Given 𝓤 H A} {Γ : List (Item 𝓤)} {E : Env 𝓤 H}
     {C : Calls 𝓤 H} {Λ : Loops 𝓤 H} {q : Post 𝓤 H} {f : Name} {xs : List Opd} {d : Place} {rest : Body} where
   -- plain data: what it asks is had for nothing

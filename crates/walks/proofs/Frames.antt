@@ -1,6 +1,5 @@
 -- The locals of a function as one entry of the context: `frame E vs` owns each local of E, with the value that stands at its
--- place
--- in vs, or none yet; past the end of vs nothing was stored. A local is read and written by its number.
+-- place in vs, or none yet; past the end of vs nothing was stored. A local is read and written by its number.
 use mathlib.Core.Path.{_≡_, sym, ap, subst}
 use Prim.Native.Nat.{ℕ, zero, suc}
 use mathlib.Core.Option.{Option, none, some, Option·none-ne-some}

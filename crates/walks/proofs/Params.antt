@@ -1,6 +1,5 @@
 -- A function's parameters: plain data, and references to plain data with a lifetime each. What a function has of them at entry
--- and at
--- exit, and what a caller hands over and gets back, parameter by parameter.
+-- and at exit, and what a caller hands over and gets back, parameter by parameter.
 use mathlib.Core.Path.{refl}
 use Prim.Native.Nat.{ℕ, _<_, _^_}
 use mathlib.Core.Option.{Option, none, some}

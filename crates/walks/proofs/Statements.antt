@@ -1,6 +1,5 @@
 -- What a call of a thin function's body does: its operands are locals, its callee is known by its contract. One rule serves
--- callees of any
--- number of references, once these and the tokens of their lifetimes are owned.
+-- callees of any number of references, once these and the tokens of their lifetimes are owned.
 use mathlib.Core.Path.{_≡_, refl, sym, ap, subst, _∙_}
 use Prim.Native.Nat.{ℕ, zero, suc}
 use mathlib.Core.Bool.{Bool, true, false, _&&_}
