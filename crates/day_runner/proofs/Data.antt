@@ -1,41 +1,24 @@
 -- The plain data of its own that the runner's walks carry, and the fields of a run and of its progress.
 use mathlib.Core.List.{[], _∷_}
 use denote.Laws.{Is}
-use denote.Struct.Laws as SL
 use Rattle.day_runner.specs.declared.records.Progress.{Progress}
 use Rattle.day_runner.specs.declared.records.Running.{Running}
 use Rattle.day_runner.proofs.records.Progress as P
 use Rattle.day_runner.proofs.records.Progress.Laws as P′
 use Rattle.day_runner.proofs.records.Running as R
 use Rattle.day_runner.proofs.records.Running.Laws as R′
+use mathlib.Core.Path.{refl}
 use Rattle.walks.proofs.Data.{Datum, Fine, spelled}
+use Rattle.walks.proofs.Declared.{a-struct}
 use Rattle.walks.proofs.Contracts.{three-given}
 use Rattle.memory.proofs.Types.{a-day}
 use Rattle.days.proofs.LocalTable.{Table, a-table, table-as}
 
 abbrev pub a-progress : Datum
-a-progress =
-    record {
-      base = P.the-row;
-      ty = P′.mir;
-      spell = P′.lowered;
-      tells = P′.lowers .val-is;
-      makes = λ 𝓤 H A W. SL.makes P.the-type P′.the-plain 𝓤 H A;
-      laws = SL.lawful P.the-type P′.the-laws;
-      twice = SL.copy P.the-type P′.the-copy;
-    }
+a-progress = a-struct P.the-type P′.lowers P′.the-plain P′.the-laws P′.the-copy refl
 
 abbrev pub a-running : Datum
-a-running =
-    record {
-      base = R.the-row;
-      ty = R′.mir;
-      spell = R′.lowered;
-      tells = R′.lowers .val-is;
-      makes = λ 𝓤 H A W. SL.makes R.the-type R′.the-plain 𝓤 H A;
-      laws = SL.lawful R.the-type R′.the-laws;
-      twice = SL.copy R.the-type R′.the-copy;
-    }
+a-running = a-struct R.the-type R′.lowers R′.the-plain R′.the-laws R′.the-copy refl
 
 -- the fields of a run and of its progress
 pub day-of : (p : Progress) → Fine a-progress p → Fine a-day (p .day)

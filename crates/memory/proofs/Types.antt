@@ -2,10 +2,9 @@
 -- register and task have rules of their own (`register-field`, `task-field`), because a turn stores these two in place.
 use mathlib.Core.Path.{refl}
 use mathlib.Core.List.{[], _∷_}
-use denote.Struct.Laws as SL
-use denote.Enum.Laws as EL
 use Rattle.walks.proofs.Walking.{Datum, Field}
 use Rattle.walks.proofs.Data.{spelled}
+use Rattle.walks.proofs.Declared.{a-struct, an-enum}
 use Rattle.unbounded_turns.specs.Steps.{withTask}
 use Rattle.unbounded_turns.proofs.Parts.{withRegister}
 use Rattle.unbounded.proofs.Process as P
@@ -32,136 +31,37 @@ use Rattle.snapshot.proofs.Request as Q
 use Rattle.snapshot.proofs.Request.Laws as Q′
 
 abbrev pub a-process : Datum
-a-process =
-    record {
-      base = P.the-row;
-      ty = P′.mir;
-      spell = P′.lowered;
-      tells = P′.lowers .val-is;
-      makes = λ 𝓤 H A W. SL.makes P.the-type P′.the-plain 𝓤 H A;
-      laws = SL.lawful P.the-type P′.the-laws;
-      twice = SL.copy P.the-type P′.the-copy;
-    }
+a-process = a-struct P.the-type P′.lowers P′.the-plain P′.the-laws P′.the-copy refl
 
 abbrev pub a-register : Datum
-a-register =
-    record {
-      base = R.the-row;
-      ty = R′.mir;
-      spell = R′.lowered;
-      tells = R′.lowers .val-is;
-      makes = λ 𝓤 H A W. SL.makes R.the-type R′.the-plain 𝓤 H A;
-      laws = SL.lawful R.the-type R′.the-laws;
-      twice = SL.copy R.the-type R′.the-copy;
-    }
+a-register = a-struct R.the-type R′.lowers R′.the-plain R′.the-laws R′.the-copy refl
 
 abbrev pub a-task : Datum
-a-task =
-    record {
-      base = K.the-row;
-      ty = K′.mir;
-      spell = K′.lowered;
-      tells = K′.lowers .val-is;
-      makes = λ 𝓤 H A W. EL.makes K.the-type K′.the-plain 𝓤 H A;
-      laws = λ 𝓤 H A W. EL.lawful K.the-type K′.the-laws 𝓤 H A W tt;
-      twice = EL.copy K.the-type K′.the-copy;
-    }
+a-task = an-enum K.the-type K′.lowers K′.the-plain K′.the-laws K′.the-copy tt refl
 
 abbrev pub an-access : Datum
-an-access =
-    record {
-      base = G.the-row;
-      ty = G′.mir;
-      spell = G′.lowered;
-      tells = G′.lowers .val-is;
-      makes = λ 𝓤 H A W. SL.makes G.the-type G′.the-plain 𝓤 H A;
-      laws = SL.lawful G.the-type G′.the-laws;
-      twice = SL.copy G.the-type G′.the-copy;
-    }
+an-access = a-struct G.the-type G′.lowers G′.the-plain G′.the-laws G′.the-copy refl
 
 abbrev pub a-find : Datum
-a-find =
-    record {
-      base = F.the-row;
-      ty = F′.mir;
-      spell = F′.lowered;
-      tells = F′.lowers .val-is;
-      makes = λ 𝓤 H A W. SL.makes F.the-type F′.the-plain 𝓤 H A;
-      laws = SL.lawful F.the-type F′.the-laws;
-      twice = SL.copy F.the-type F′.the-copy;
-    }
+a-find = a-struct F.the-type F′.lowers F′.the-plain F′.the-laws F′.the-copy refl
 
 abbrev pub a-survey : Datum
-a-survey =
-    record {
-      base = S.the-row;
-      ty = S′.mir;
-      spell = S′.lowered;
-      tells = S′.lowers .val-is;
-      makes = λ 𝓤 H A W. SL.makes S.the-type S′.the-plain 𝓤 H A;
-      laws = SL.lawful S.the-type S′.the-laws;
-      twice = SL.copy S.the-type S′.the-copy;
-    }
+a-survey = a-struct S.the-type S′.lowers S′.the-plain S′.the-laws S′.the-copy refl
 
 abbrev pub a-check : Datum
-a-check =
-    record {
-      base = C.the-row;
-      ty = C′.mir;
-      spell = C′.lowered;
-      tells = C′.lowers .val-is;
-      makes = λ 𝓤 H A W. EL.makes C.the-type C′.the-plain 𝓤 H A;
-      laws = λ 𝓤 H A W. EL.lawful C.the-type C′.the-laws 𝓤 H A W tt;
-      twice = EL.copy C.the-type C′.the-copy;
-    }
+a-check = an-enum C.the-type C′.lowers C′.the-plain C′.the-laws C′.the-copy tt refl
 
 abbrev pub a-day : Datum
-a-day =
-    record {
-      base = D.the-row;
-      ty = D′.mir;
-      spell = D′.lowered;
-      tells = D′.lowers .val-is;
-      makes = λ 𝓤 H A W. SL.makes D.the-type D′.the-plain 𝓤 H A;
-      laws = SL.lawful D.the-type D′.the-laws;
-      twice = SL.copy D.the-type D′.the-copy;
-    }
+a-day = a-struct D.the-type D′.lowers D′.the-plain D′.the-laws D′.the-copy refl
 
 abbrev pub an-outcome : Datum
-an-outcome =
-    record {
-      base = O.the-row;
-      ty = O′.mir;
-      spell = O′.lowered;
-      tells = O′.lowers .val-is;
-      makes = λ 𝓤 H A W. SL.makes O.the-type O′.the-plain 𝓤 H A;
-      laws = SL.lawful O.the-type O′.the-laws;
-      twice = SL.copy O.the-type O′.the-copy;
-    }
+an-outcome = a-struct O.the-type O′.lowers O′.the-plain O′.the-laws O′.the-copy refl
 
 abbrev pub an-answer : Datum
-an-answer =
-    record {
-      base = N.the-row;
-      ty = N′.mir;
-      spell = N′.lowered;
-      tells = N′.lowers .val-is;
-      makes = λ 𝓤 H A W. EL.makes N.the-type N′.the-plain 𝓤 H A;
-      laws = λ 𝓤 H A W. EL.lawful N.the-type N′.the-laws 𝓤 H A W tt;
-      twice = EL.copy N.the-type N′.the-copy;
-    }
+an-answer = an-enum N.the-type N′.lowers N′.the-plain N′.the-laws N′.the-copy tt refl
 
 abbrev pub a-request : Datum
-a-request =
-    record {
-      base = Q.the-row;
-      ty = Q′.mir;
-      spell = Q′.lowered;
-      tells = Q′.lowers .val-is;
-      makes = λ 𝓤 H A W. EL.makes Q.the-type Q′.the-plain 𝓤 H A;
-      laws = λ 𝓤 H A W. EL.lawful Q.the-type Q′.the-laws 𝓤 H A W tt;
-      twice = EL.copy Q.the-type Q′.the-copy;
-    }
+a-request = an-enum Q.the-type Q′.lowers Q′.the-plain Q′.the-laws Q′.the-copy tt refl
 
 -- ---- the two fields of a record that a turn stores in place
 

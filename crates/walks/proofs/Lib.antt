@@ -1,5 +1,6 @@
 -- Walks: proofs by hand of thin functions over lent tables, statement by statement. Read in this order.
 pub mod Data
+pub mod Declared
 pub mod Frames
 pub mod Params
 pub mod Thin
