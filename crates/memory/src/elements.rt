@@ -4,20 +4,20 @@ use admission::Survey;
 use unbounded::Process;
 use unbounded::Register;
 use unbounded::Task;
-use unbounded_turns::Access;
-use unbounded_turns::Find;
+use unbounded_tasks::Access;
+use unbounded_tasks::Find;
+use unbounded_tasks::surveys;
+use unbounded_tasks::tasks;
 use unbounded_turns::finds;
 use unbounded_turns::records;
-use unbounded_turns::surveys;
-use unbounded_turns::tasks;
 ghost use mathlib.Core.Path.{_≡_};
 ghost use mathlib.Core.List.{map, foldl};
 ghost use Prim.Native.Nat.{_<_};
 ghost use lib.ListN.{length, getD, set};
 ghost use Rattle.unbounded.specs.Processes.{noProcess, zeroProcess, isIdle};
-ghost use Rattle.unbounded_turns.specs.Accesses.{Sound};
+ghost use Rattle.unbounded_tasks.specs.Accesses.{Sound};
 ghost use Rattle.unbounded_turns.specs.Steps.{begunBy, findOf, stateBy};
-ghost use Rattle.unbounded_turns.specs.Surveys.{surveyedBy};
+ghost use Rattle.unbounded_tasks.specs.Surveys.{surveyedBy};
 ghost use Rattle.memory.specs.Turning.{Turning};
 
 // What a look at every record finds, from what was found before.

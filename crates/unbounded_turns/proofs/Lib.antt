@@ -1,4 +1,3 @@
--- That the steps of the code are a turn, and that a look at every record finds what refusal 11 asks.
+-- That the steps of the code are a turn.
 pub mod Parts
 pub mod Steps
-pub mod Unsound

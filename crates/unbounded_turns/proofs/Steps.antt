@@ -27,11 +27,13 @@ use Rattle.unbounded.specs.Turns.{reads, position, firstAfter, secondAfter, end
 use Rattle.unbounded.specs.Turns.{foundBy, scanTurn, updateTurn, turnedBy, turned}
 use Rattle.unbounded.specs.Days.{figure3}
 use Rattle.unbounded.proofs.Places.{page-of-long}
-use Rattle.unbounded_turns.specs.declared.Access.{Access}
-use Rattle.unbounded_turns.specs.declared.Find.{Find}
-use Rattle.unbounded_turns.specs.Accesses.{callAccess, isReady, accessOf, registerIn}
-use Rattle.unbounded_turns.specs.Steps.{decisionFind, findOf, withTask, keepsBy, readBy, endsBy, taskBy, writtenBy, stateBy}
-use Rattle.unbounded_turns.specs.Steps.{begunBy, answerBy, pageBy}
+use Rattle.unbounded_tasks.specs.declared.Access.{Access}
+use Rattle.unbounded_tasks.specs.declared.Find.{Find}
+use Rattle.unbounded_tasks.specs.Accesses.{callAccess, isReady, accessOf, registerIn}
+use Rattle.unbounded_turns.specs.Steps.{decisionFind, findOf, withTask, readBy, writtenBy, stateBy}
+use Rattle.unbounded_tasks.specs.Tasks.{keepsBy, endsBy, taskBy}
+use Rattle.unbounded_turns.specs.Steps.{begunBy, pageBy}
+use Rattle.unbounded_tasks.specs.Tasks.{answerBy}
 use Rattle.unbounded_turns.proofs.Parts.{withRegister, withCollected}
 
 -- a turn in the steps of the code, where it found f

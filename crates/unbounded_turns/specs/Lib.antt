@@ -1,4 +1,2 @@
--- What the functions on one process record compute, for registers read in ascending order. Read in this order.
-pub mod Accesses
+-- What the functions on one process record compute, for registers read in ascending order.
 pub mod Steps
-pub mod Surveys

@@ -1,17 +1,13 @@
 -- What the functions on one process record compute, step by step. That together they are a turn of `Turns` is proved
 -- (proofs/Steps).
 use Prim.Native.Nat.{ℕ, _+_}
-use mathlib.Core.Bool.{Bool, true, false, cond}
+use mathlib.Core.Bool.{true, false, cond}
 use mathlib.Core.List.{List}
 use mathlib.Core.Option.{Option, none, some}
 use lib.ListN.{replicate}
 use Rattle.snapshot.specs.Lists.{over}
 use Rattle.snapshot.specs.Verdict.{Verdict, clean, lent, again}
 use Rattle.snapshot.specs.Marks.{markFrom}
-use Rattle.snapshot.specs.declared.Request.{Request}
-use Rattle.snapshot.specs.declared.Request.the-variants as Requests
-use Rattle.snapshot.specs.declared.Answer.{Answer}
-use Rattle.snapshot.specs.declared.Answer.the-variants.{Read, Page, Written}
 use Rattle.unbounded.specs.declared.Register.{Register}
 use Rattle.unbounded.specs.declared.Process.{Process}
 use Rattle.unbounded.specs.declared.Task.{Task}
@@ -19,17 +15,9 @@ use Rattle.unbounded.specs.declared.Task.the-variants.{Idle, Scan, Update, Read
 use Rattle.unbounded.specs.Registers.{ascending, collectedAt, pageOf, differs}
 use Rattle.unbounded.specs.Processes.{emptied, begin}
 use Rattle.unbounded.specs.Turns.{firstAfter, secondAfter, endAfter, decision, written}
-use Rattle.unbounded_turns.specs.declared.Access.{Access}
-use Rattle.unbounded_turns.specs.declared.Find.{Find}
-
--- ---- tasks
-
--- the task that a call sets, which has had no turn
-abbrev pub taskFor : Request → Task
-taskFor (Requests.Open k) = Idle
-taskFor (Requests.Update d w) = Update w 0
-taskFor (Requests.Scan d) = Scan 0
-taskFor (Requests.Turn d) = Idle
+use Rattle.unbounded_tasks.specs.declared.Access.{Access}
+use Rattle.unbounded_tasks.specs.declared.Find.{Find}
+use Rattle.unbounded_tasks.specs.Tasks.{keepsBy, endsBy, taskBy}
 
 -- ---- what a turn finds
 
@@ -79,13 +67,6 @@ withTask k p =
 unfoldable pub begunBy : Access → Task → Process → Process
 begunBy a k p = begin (a .n) k p
 
--- whether a task keeps the page that a turn found: an update does
-abbrev pub keepsBy : Find → Task → Bool
-keepsBy f Idle = false
-keepsBy f (Scan t) = false
-keepsBy f (Update w t) = f .found
-keepsBy f (Ready w at t) = false
-
 -- the record p of task k once r is read, with the task that it had
 unfoldable pub readBy : Access → Register → Process → Find → Task → Process
 readBy a r p f k =
@@ -101,20 +82,6 @@ readBy a r p f k =
       moved = markFrom (differs ascending first second) (f .passed) 0 (p .moved);
     }
 
--- whether the turn ends its task
-abbrev pub endsBy : Find → Task → Bool
-endsBy f Idle = false
-endsBy f (Scan t) = f .found
-endsBy f (Update w t) = false
-endsBy f (Ready w at t) = true
-
--- the task after the turn
-abbrev pub taskBy : Find → Task → Task
-taskBy f Idle = Idle
-taskBy f (Scan t) = cond (f .found) Idle (Scan (t + 1))
-taskBy f (Update w t) = cond (f .found) (Ready w (f .at) (t + 1)) (Update w (t + 1))
-taskBy f (Ready w at t) = Idle
-
 -- the register after the turn: an update that is ready writes it
 abbrev pub writtenBy : Access → Process → Task → Register
 writtenBy a p Idle = p .register
@@ -126,15 +93,6 @@ writtenBy a p (Ready w at t) = written (a .n) w at p
 unfoldable pub stateBy : Access → Register → Process → Find → Task → Process
 stateBy a r p f k =
     cond (endsBy f k) (emptied (a .n) (writtenBy a p k) Idle p) (withTask (taskBy f k) (readBy a r p f k))
-
--- ---- what it answers
-
--- the answer of a turn that found f
-abbrev pub answerBy : Find → Task → Answer
-answerBy f Idle = Read
-answerBy f (Scan t) = cond (f .found) (Page (f .lender) (f .at) (t + 1)) Read
-answerBy f (Update w t) = Read
-answerBy f (Ready w at t) = Written (t + 1)
 
 -- the page list after it: "its first n are written by a page answer; later words, and all words on any other turn, remain"
 abbrev pub pageBy : Access → Find → Task → List ℕ → List ℕ

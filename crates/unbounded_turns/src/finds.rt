@@ -1,18 +1,18 @@
 // What a turn finds, and the page list after it.
-use crate::Access;
-use crate::Find;
 use crate::collects;
 use admission::words::lay_words;
 use unbounded::Process;
 use unbounded::Register;
 use unbounded::Task;
+use unbounded_tasks::Access;
+use unbounded_tasks::Find;
 ghost use mathlib.Core.Path.{_≡_};
 ghost use mathlib.Core.Option.{some};
 ghost use Prim.Native.Nat.{_≤_};
 ghost use Rattle.snapshot.specs.Verdict.{verdict};
 ghost use Rattle.snapshot.specs.Marks.{lends};
 ghost use Rattle.unbounded.specs.Registers.{ascending, differs};
-ghost use Rattle.unbounded_turns.specs.Accesses.{Sound, RoomFor};
+ghost use Rattle.unbounded_tasks.specs.Accesses.{Sound, RoomFor};
 ghost use Rattle.unbounded_turns.specs.Steps.{nothingFound, decisionFind, findOf, pageBy};
 
 // Nothing found; the search for a lender passed k processes.

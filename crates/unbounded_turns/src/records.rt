@@ -1,18 +1,18 @@
 // The record of a process by value: its parts, and the record after a call, a read or an answer, with the task that it had. A
 // record is copied once and changed in place; the caller stores its task.
-use crate::Access;
-use crate::Find;
 use crate::collects;
-use crate::tasks;
 use admission::words::over_words;
 use unbounded::Process;
 use unbounded::Register;
 use unbounded::Task;
+use unbounded_tasks::Access;
+use unbounded_tasks::Find;
+use unbounded_tasks::tasks;
 ghost use mathlib.Core.Path.{_≡_};
 ghost use Prim.Native.Nat.{_≤_, _<_};
 ghost use Rattle.unbounded.specs.Processes.{isIdle, zeroProcess};
 ghost use Rattle.unbounded.specs.Turns.{endAfter};
-ghost use Rattle.unbounded_turns.specs.Accesses.{Sound};
+ghost use Rattle.unbounded_tasks.specs.Accesses.{Sound};
 ghost use Rattle.unbounded_turns.specs.Steps.{begunBy, readBy, writtenBy};
 
 // A record in which every number is 0, and which is idle.

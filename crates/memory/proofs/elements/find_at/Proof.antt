@@ -7,7 +7,7 @@ use Rattle.walks.proofs.Walking.{ !, Param, value, shared, a-usize, thin, _▹_
 use Rattle.walks.proofs.Walking.{copies-element}
 use Rattle.walks.proofs.Walking.{gets, ends-shared, callee, given, first-said, id⊢}
 use Rattle.unbounded.specs.Processes.{noProcess}
-use Rattle.unbounded_turns.specs.Accesses.{Sound}
+use Rattle.unbounded_tasks.specs.Accesses.{Sound}
 use Rattle.unbounded_turns.specs.Steps.{findOf}
 use Rattle.memory.proofs.Types.{a-process, a-register, an-access, a-find}
 use Rattle.unbounded_turns.proofs.finds.find_page as finds

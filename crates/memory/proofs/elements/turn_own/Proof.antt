@@ -8,23 +8,24 @@ use Rattle.walks.proofs.Walking.{stores-whole, stores-field, lends-element, cal
 use Rattle.walks.proofs.Walking.{asks-nothing, unit-said, id⊢}
 use lib.Ieee.Bits.{is-true, is-false}
 use Rattle.unbounded.specs.declared.Task.the-variants.{Idle}
-use Rattle.unbounded_turns.specs.Steps.{begunBy, readBy, writtenBy, endsBy, taskBy, withTask}
+use Rattle.unbounded_turns.specs.Steps.{begunBy, readBy, writtenBy, withTask}
+use Rattle.unbounded_tasks.specs.Tasks.{endsBy, taskBy}
 use Rattle.unbounded_turns.proofs.Steps.{state-ended, state-went-on}
 use Rattle.unbounded_turns.proofs.Parts.{withRegister}
 use Rattle.memory.specs.Turning.{Turning}
 use Rattle.memory.proofs.Types.{a-process, a-register, a-task, an-access, a-find, register-field, task-field}
-use Rattle.unbounded_turns.proofs.tasks.ends as ends
-use Rattle.unbounded_turns.proofs.tasks.ends.Met as ends-met
+use Rattle.unbounded_tasks.proofs.tasks.ends as ends
+use Rattle.unbounded_tasks.proofs.tasks.ends.Met as ends-met
 use Rattle.unbounded_turns.proofs.records.written as written
 use Rattle.unbounded_turns.proofs.records.written.Met as written-met
 use Rattle.memory.proofs.elements.begin_own as begin-own
 use Rattle.memory.proofs.elements.begin_own.Met as begin-own-met
-use Rattle.unbounded_turns.proofs.tasks.idle as idle
-use Rattle.unbounded_turns.proofs.tasks.idle.Met as idle-met
+use Rattle.unbounded_tasks.proofs.tasks.idle as idle
+use Rattle.unbounded_tasks.proofs.tasks.idle.Met as idle-met
 use Rattle.unbounded_turns.proofs.records.read as read
 use Rattle.unbounded_turns.proofs.records.read.Met as read-met
-use Rattle.unbounded_turns.proofs.tasks.task_after as after
-use Rattle.unbounded_turns.proofs.tasks.task_after.Met as after-met
+use Rattle.unbounded_tasks.proofs.tasks.task_after as after
+use Rattle.unbounded_tasks.proofs.tasks.task_after.Met as after-met
 use Rattle.memory.proofs.elements.turn_own.Key.{name as #f}
 use Rattle.memory.proofs.elements.turn_own as f
 use Rattle.memory.proofs.elements.turn_own.Statement as stated
@@ -37,7 +38,7 @@ pub turn-own-spec : {M : Type 1} → stated.statement M
 unfolding code.routine
 turn-own-spec 𝓤 H 𝓜 𝓖 𝓡 =
     let c = f.clauses 𝓤 H (𝓖 .A) (𝓜 .mem) (𝓡 .run) in
-    let ends-is = callee 𝓤 H 𝓜 𝓖 𝓡 code.env (value a-task ∷ value a-find ∷ []) a-bool code.calls-unbounded-turns·tasks·ends
+    let ends-is = callee 𝓤 H 𝓜 𝓖 𝓡 code.env (value a-task ∷ value a-find ∷ []) a-bool code.calls-unbounded-tasks·tasks·ends
     (ends.clauses 𝓤 H (𝓖 .A) (𝓜 .mem) (𝓡 .run)) (λ κs a. tt) (ends-met.met 𝓤 H 𝓜 𝓖 𝓡) in
     let written-is = callee 𝓤 H 𝓜 𝓖 𝓡 code.env (value an-access ∷ value a-process ∷ []) a-register
     code.calls-unbounded-turns·records·written
@@ -45,12 +46,12 @@ turn-own-spec 𝓤 H 𝓜 𝓖 𝓡 =
     let begin-own-is = callee 𝓤 H 𝓜 𝓖 𝓡 code.env (own 0 tt a-process ∷ value an-access ∷ value a-task ∷ []) a-unit
     code.calls-memory·elements·begin-own
     (begin-own.clauses 𝓤 H (𝓖 .A) (𝓜 .mem) (𝓡 .run)) (λ κs a. tt) (begin-own-met.met 𝓤 H 𝓜 𝓖 𝓡) in
-    let idle-is = callee 𝓤 H 𝓜 𝓖 𝓡 code.env [] a-task code.calls-unbounded-turns·tasks·idle
+    let idle-is = callee 𝓤 H 𝓜 𝓖 𝓡 code.env [] a-task code.calls-unbounded-tasks·tasks·idle
     (idle.clauses 𝓤 H (𝓖 .A) (𝓜 .mem) (𝓡 .run)) (λ κs a. tt) (idle-met.met 𝓤 H 𝓜 𝓖 𝓡) in
     let read-is = callee 𝓤 H 𝓜 𝓖 𝓡 code.env (value an-access ∷ value a-register ∷ value a-task ∷ value a-find ∷ value a-process
     ∷ []) a-process code.calls-unbounded-turns·records·read
     (read.clauses 𝓤 H (𝓖 .A) (𝓜 .mem) (𝓡 .run)) (λ κs a. tt) (read-met.met 𝓤 H 𝓜 𝓖 𝓡) in
-    let after-is = callee 𝓤 H 𝓜 𝓖 𝓡 code.env (value a-task ∷ value a-find ∷ []) a-task code.calls-unbounded-turns·tasks·task-after
+    let after-is = callee 𝓤 H 𝓜 𝓖 𝓡 code.env (value a-task ∷ value a-find ∷ []) a-task code.calls-unbounded-tasks·tasks·task-after
     (after.clauses 𝓤 H (𝓖 .A) (𝓜 .mem) (𝓡 .run)) (λ κs a. tt) (after-met.met 𝓤 H 𝓜 𝓖 𝓡) in
     thin ps a-unit 𝓤 H 𝓜 𝓖 𝓡 code.env c _ _ #f (code.unfolded 𝓤 H 𝓜 𝓡) (λ κs qs a h are bs.
     let x = a .0 in

@@ -8,16 +8,17 @@ use Rattle.walks.proofs.Walking.{ !, Param, value, shared, lent, a-usize, a-u32
 use Rattle.walks.proofs.Walking.{swaps, gets, gets-also}
 use Rattle.walks.proofs.Walking.{calls-shared-is, calls-lent, ends-two, callee, given, three-given, two-said, unit-said, id⊢}
 use Rattle.unbounded.specs.Processes.{noProcess, turnsOf}
-use Rattle.unbounded_turns.specs.Accesses.{Sound, accessOf, readsIn, RoomFor}
-use Rattle.unbounded_turns.specs.Steps.{stateBy, answerBy, pageBy}
+use Rattle.unbounded_tasks.specs.Accesses.{Sound, accessOf, readsIn, RoomFor}
+use Rattle.unbounded_turns.specs.Steps.{stateBy, pageBy}
+use Rattle.unbounded_tasks.specs.Tasks.{answerBy}
 use Rattle.unbounded_turns.proofs.Steps.{find-passed, access-count}
 use Rattle.admission.specs.Outcomes.{acceptedOutcome}
 use Rattle.memory.specs.Turning.{TurnAt, readAt, foundAt}
 use Rattle.memory.proofs.Types.{a-process, a-register, a-task, an-access, a-find, a-day, an-answer, an-outcome}
-use Rattle.unbounded_turns.proofs.accesses.access_of as access
-use Rattle.unbounded_turns.proofs.accesses.access_of.Met as access-met
-use Rattle.unbounded_turns.proofs.accesses.place_of as place
-use Rattle.unbounded_turns.proofs.accesses.place_of.Met as place-met
+use Rattle.unbounded_tasks.proofs.accesses.access_of as access
+use Rattle.unbounded_tasks.proofs.accesses.access_of.Met as access-met
+use Rattle.unbounded_tasks.proofs.accesses.place_of as place
+use Rattle.unbounded_tasks.proofs.accesses.place_of.Met as place-met
 use Rattle.memory.proofs.elements.register_at as register
 use Rattle.memory.proofs.elements.register_at.Met as register-met
 use Rattle.memory.proofs.elements.find_at as find
@@ -26,8 +27,8 @@ use Rattle.unbounded_turns.proofs.finds.lay_page as lay
 use Rattle.unbounded_turns.proofs.finds.lay_page.Met as lay-met
 use Rattle.memory.proofs.elements.turn_at as turns
 use Rattle.memory.proofs.elements.turn_at.Met as turns-met
-use Rattle.unbounded_turns.proofs.tasks.answer as answer
-use Rattle.unbounded_turns.proofs.tasks.answer.Met as answer-met
+use Rattle.unbounded_tasks.proofs.tasks.answer as answer
+use Rattle.unbounded_tasks.proofs.tasks.answer.Met as answer-met
 use Rattle.admission.proofs.outcomes.accepted as accepted
 use Rattle.admission.proofs.outcomes.accepted.Met as accepted-met
 use Rattle.memory.proofs.table.read_turn.Key.{name as #f}
@@ -43,9 +44,9 @@ unfolding code.routine
 read-turn-spec 𝓤 H 𝓜 𝓖 𝓡 =
     let c = f.clauses 𝓤 H (𝓖 .A) (𝓜 .mem) (𝓡 .run) in
     let access-is = callee 𝓤 H 𝓜 𝓖 𝓡 code.env (value a-day ∷ value a-task ∷ []) an-access
-    code.calls-unbounded-turns·accesses·access-of
+    code.calls-unbounded-tasks·accesses·access-of
     (access.clauses 𝓤 H (𝓖 .A) (𝓜 .mem) (𝓡 .run)) (λ κs a. tt) (access-met.met 𝓤 H 𝓜 𝓖 𝓡) in
-    let place-is = callee 𝓤 H 𝓜 𝓖 𝓡 code.env (value an-access ∷ []) a-usize code.calls-unbounded-turns·accesses·place-of
+    let place-is = callee 𝓤 H 𝓜 𝓖 𝓡 code.env (value an-access ∷ []) a-usize code.calls-unbounded-tasks·accesses·place-of
     (place.clauses 𝓤 H (𝓖 .A) (𝓜 .mem) (𝓡 .run)) (λ κs a. tt) (place-met.met 𝓤 H 𝓜 𝓖 𝓡) in
     let register-is = callee 𝓤 H 𝓜 𝓖 𝓡 code.env (shared 0 tt a-process ∷ value a-usize ∷ []) a-register
     code.calls-memory·elements·register-at
@@ -59,7 +60,7 @@ read-turn-spec 𝓤 H 𝓜 𝓖 𝓡 =
     let turns-is = callee 𝓤 H 𝓜 𝓖 𝓡 code.env (lent 0 tt a-process ∷ value a-usize ∷ value an-access ∷ value a-register ∷ value
     a-find ∷ []) a-unit code.calls-memory·elements·turn-at
     (turns.clauses 𝓤 H (𝓖 .A) (𝓜 .mem) (𝓡 .run)) (λ κs a. tt) (turns-met.met 𝓤 H 𝓜 𝓖 𝓡) in
-    let answer-is = callee 𝓤 H 𝓜 𝓖 𝓡 code.env (value a-task ∷ value a-find ∷ []) an-answer code.calls-unbounded-turns·tasks·answer
+    let answer-is = callee 𝓤 H 𝓜 𝓖 𝓡 code.env (value a-task ∷ value a-find ∷ []) an-answer code.calls-unbounded-tasks·tasks·answer
     (answer.clauses 𝓤 H (𝓖 .A) (𝓜 .mem) (𝓡 .run)) (λ κs a. tt) (answer-met.met 𝓤 H 𝓜 𝓖 𝓡) in
     let accepted-is = callee 𝓤 H 𝓜 𝓖 𝓡 code.env (value a-day ∷ value an-answer ∷ []) an-outcome
     code.calls-admission·outcomes·accepted

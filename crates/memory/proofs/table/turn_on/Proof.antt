@@ -14,8 +14,9 @@ use Rattle.walks.proofs.Walking.{three-said, id⊢}
 use Rattle.snapshot.specs.Requests.{numberIn}
 use Rattle.unbounded.specs.Registers.{zeroRegister}
 use Rattle.unbounded.specs.Processes.{noProcess}
-use Rattle.unbounded_turns.specs.Accesses.{isReady, accessOf}
-use Rattle.unbounded_turns.specs.Steps.{nothingFound, stateBy, answerBy, pageBy}
+use Rattle.unbounded_tasks.specs.Accesses.{isReady, accessOf}
+use Rattle.unbounded_turns.specs.Steps.{nothingFound, stateBy, pageBy}
+use Rattle.unbounded_tasks.specs.Tasks.{answerBy}
 use Rattle.admission.specs.Requests.{itemOf, isOpening, isCall}
 use Rattle.admission.specs.Outcomes.{acceptedOutcome}
 use Rattle.memory.specs.Tables.{stateOf, refusalIn}
@@ -26,8 +27,8 @@ use Rattle.admission.proofs.requests.index_in as index
 use Rattle.admission.proofs.requests.index_in.Met as index-met
 use Rattle.memory.proofs.elements.task_at as task
 use Rattle.memory.proofs.elements.task_at.Met as task-met
-use Rattle.unbounded_turns.proofs.accesses.is_ready as is-ready
-use Rattle.unbounded_turns.proofs.accesses.is_ready.Met as is-ready-met
+use Rattle.unbounded_tasks.proofs.accesses.is_ready as is-ready
+use Rattle.unbounded_tasks.proofs.accesses.is_ready.Met as is-ready-met
 use Rattle.memory.proofs.table.write_turn as write
 use Rattle.memory.proofs.table.write_turn.Met as write-met
 use Rattle.memory.proofs.table.read_turn as read
@@ -48,7 +49,7 @@ turn-on-spec 𝓤 H 𝓜 𝓖 𝓡 =
     (index.clauses 𝓤 H (𝓖 .A) (𝓜 .mem) (𝓡 .run)) (λ κs a. tt) (index-met.met 𝓤 H 𝓜 𝓖 𝓡) in
     let task-is = callee 𝓤 H 𝓜 𝓖 𝓡 code.env (shared 0 tt a-process ∷ value a-usize ∷ []) a-task code.calls-memory·elements·task-at
     (task.clauses 𝓤 H (𝓖 .A) (𝓜 .mem) (𝓡 .run)) (λ κs a. tt) (task-met.met 𝓤 H 𝓜 𝓖 𝓡) in
-    let is-ready-is = callee 𝓤 H 𝓜 𝓖 𝓡 code.env (value a-task ∷ []) a-bool code.calls-unbounded-turns·accesses·is-ready
+    let is-ready-is = callee 𝓤 H 𝓜 𝓖 𝓡 code.env (value a-task ∷ []) a-bool code.calls-unbounded-tasks·accesses·is-ready
     (is-ready.clauses 𝓤 H (𝓖 .A) (𝓜 .mem) (𝓡 .run)) (λ κs a. tt) (is-ready-met.met 𝓤 H 𝓜 𝓖 𝓡) in
     let write-is = callee 𝓤 H 𝓜 𝓖 𝓡 code.env (value a-day ∷ lent 0 tt a-process ∷ value a-usize ∷ value a-task ∷ []) an-outcome
     code.calls-memory·table·write-turn

@@ -9,21 +9,22 @@ use Rattle.walks.proofs.Walking.{calls-lent, ends-lent}
 use Rattle.walks.proofs.Walking.{callee, asks-nothing, given, two-given, two-said, unit-said, id⊢}
 use Rattle.unbounded.specs.Registers.{zeroRegister}
 use Rattle.unbounded.specs.Processes.{noProcess, turnsOf}
-use Rattle.unbounded_turns.specs.Accesses.{Sound, accessOf}
-use Rattle.unbounded_turns.specs.Steps.{nothingFound, stateBy, answerBy}
+use Rattle.unbounded_tasks.specs.Accesses.{Sound, accessOf}
+use Rattle.unbounded_turns.specs.Steps.{nothingFound, stateBy}
+use Rattle.unbounded_tasks.specs.Tasks.{answerBy}
 use Rattle.admission.specs.Outcomes.{acceptedOutcome}
 use Rattle.memory.specs.Turning.{TurnAt}
 use Rattle.memory.proofs.Types.{a-process, a-register, a-task, an-access, a-find, a-day, an-answer, an-outcome}
-use Rattle.unbounded_turns.proofs.accesses.access_of as access
-use Rattle.unbounded_turns.proofs.accesses.access_of.Met as access-met
+use Rattle.unbounded_tasks.proofs.accesses.access_of as access
+use Rattle.unbounded_tasks.proofs.accesses.access_of.Met as access-met
 use Rattle.unbounded_turns.proofs.finds.nothing_found as nothing
 use Rattle.unbounded_turns.proofs.finds.nothing_found.Met as nothing-met
 use Rattle.unbounded_turns.proofs.collects.no_register as no-register
 use Rattle.unbounded_turns.proofs.collects.no_register.Met as no-register-met
 use Rattle.memory.proofs.elements.turn_at as turns
 use Rattle.memory.proofs.elements.turn_at.Met as turns-met
-use Rattle.unbounded_turns.proofs.tasks.answer as answer
-use Rattle.unbounded_turns.proofs.tasks.answer.Met as answer-met
+use Rattle.unbounded_tasks.proofs.tasks.answer as answer
+use Rattle.unbounded_tasks.proofs.tasks.answer.Met as answer-met
 use Rattle.admission.proofs.outcomes.accepted as accepted
 use Rattle.admission.proofs.outcomes.accepted.Met as accepted-met
 use Rattle.memory.proofs.table.write_turn.Key.{name as #f}
@@ -39,7 +40,7 @@ unfolding code.routine
 write-turn-spec 𝓤 H 𝓜 𝓖 𝓡 =
     let c = f.clauses 𝓤 H (𝓖 .A) (𝓜 .mem) (𝓡 .run) in
     let access-is = callee 𝓤 H 𝓜 𝓖 𝓡 code.env (value a-day ∷ value a-task ∷ []) an-access
-    code.calls-unbounded-turns·accesses·access-of
+    code.calls-unbounded-tasks·accesses·access-of
     (access.clauses 𝓤 H (𝓖 .A) (𝓜 .mem) (𝓡 .run)) (λ κs a. tt) (access-met.met 𝓤 H 𝓜 𝓖 𝓡) in
     let nothing-is = callee 𝓤 H 𝓜 𝓖 𝓡 code.env [] a-find code.calls-unbounded-turns·finds·nothing-found
     (nothing.clauses 𝓤 H (𝓖 .A) (𝓜 .mem) (𝓡 .run)) (λ κs a. tt) (nothing-met.met 𝓤 H 𝓜 𝓖 𝓡) in
@@ -48,7 +49,7 @@ write-turn-spec 𝓤 H 𝓜 𝓖 𝓡 =
     let turns-is = callee 𝓤 H 𝓜 𝓖 𝓡 code.env (lent 0 tt a-process ∷ value a-usize ∷ value an-access ∷ value a-register ∷ value
     a-find ∷ []) a-unit code.calls-memory·elements·turn-at
     (turns.clauses 𝓤 H (𝓖 .A) (𝓜 .mem) (𝓡 .run)) (λ κs a. tt) (turns-met.met 𝓤 H 𝓜 𝓖 𝓡) in
-    let answer-is = callee 𝓤 H 𝓜 𝓖 𝓡 code.env (value a-task ∷ value a-find ∷ []) an-answer code.calls-unbounded-turns·tasks·answer
+    let answer-is = callee 𝓤 H 𝓜 𝓖 𝓡 code.env (value a-task ∷ value a-find ∷ []) an-answer code.calls-unbounded-tasks·tasks·answer
     (answer.clauses 𝓤 H (𝓖 .A) (𝓜 .mem) (𝓡 .run)) (λ κs a. tt) (answer-met.met 𝓤 H 𝓜 𝓖 𝓡) in
     let accepted-is = callee 𝓤 H 𝓜 𝓖 𝓡 code.env (value a-day ∷ value an-answer ∷ []) an-outcome
     code.calls-admission·outcomes·accepted
