@@ -1,9 +1,3 @@
--- What the runner's passes write, and what its walks share.
-pub mod Laps
-pub mod Printing
-pub mod Written
-pub mod CaseA
+-- What a pass comes to, and what the passes write.
 pub mod Passing
-pub mod Transfers
-pub mod Refilling
-pub mod Data
+pub mod Written

@@ -7,16 +7,17 @@ use mathlib.Core.List.{List, [], _∷_, _++_}
 use lib.ListN.{length, take, replicate, length-append}
 use Rattle.daytext.specs.Buffer.{longest}
 use Rattle.unbounded.specs.Processes.{zeroProcess}
-use Rattle.day_runner.specs.declared.input.Input.{Input}
-use Rattle.day_runner.specs.declared.records.Progress.{Progress}
-use Rattle.day_runner.specs.declared.records.Running.{Running}
-use Rattle.day_runner.specs.System.{IsSent}
-use Rattle.day_runner.specs.Input.{Within, IsRefill}
-use Rattle.day_runner.specs.Laps.{Stand, blankStand, ran}
-use Rattle.day_runner.specs.Progress.{blankProgress, refilledProgress, flushedProgress, linesLeft}
-use Rattle.day_runner.specs.Progress.{CanLay, Rests, standAt, standOf}
+use Rattle.streams.specs.declared.input.Input.{Input}
+use Rattle.laps.specs.declared.records.Progress.{Progress}
+use Rattle.laps.specs.declared.records.Running.{Running}
+use Rattle.streams.specs.System.{IsSent}
+use Rattle.streams.specs.Input.{Within, IsRefill}
+use Rattle.laps.specs.Laps.{Stand, blankStand, ran}
+use Rattle.laps.specs.Progress.{blankProgress, refilledProgress, flushedProgress, linesLeft}
+use Rattle.laps.specs.Progress.{CanLay, Rests, standAt, standOf}
 use Rattle.day_runner.specs.Passes.{given, Did, IsPass, LeadsTo}
-use Rattle.day_runner.proofs.Laps.{left-long, ran-short}
+use Rattle.streams.proofs.Refilling.{left-long}
+use Rattle.laps.proofs.Laps.{ran-short}
 
 -- whatever a read gave, there is room for its lines
 module _ (p : Progress) (size room words : ℕ) (rests : Rests p size room words) (j : Input) (within : Within j size) where

@@ -8,12 +8,12 @@ use mathlib.Core.Bool.{Bool, true, false, true≢false}
 use mathlib.Core.List.{List, [], _∷_, _++_, append-assoc, append-nil}
 use lib.ListN.{length, length-append}
 use Rattle.days.specs.Happenings.{dayOf}
-use Rattle.day_runner.specs.Printed.{printed, printedUntil}
-use Rattle.day_runner.specs.Input.{Gave, came, interrupted, fault, filled}
-use Rattle.day_runner.specs.Laps.{Stand, blankStand, ran}
+use Rattle.laps.specs.Printed.{printed, printedUntil}
+use Rattle.streams.specs.Input.{Gave, came, interrupted, fault, filled}
+use Rattle.laps.specs.Laps.{Stand, blankStand, ran}
 use Rattle.day_runner.specs.Passes.{given, afterPass, Did, LeadsTo, outputOf, IsRun}
 use Rattle.day_runner.specs.Passes.{Gives, ReadsFile, Taken, interruption, interruptions}
-use Rattle.day_runner.proofs.Printing.{prints, Closes, lasting, lasting-prints, Pays, closes, waits, expecting, expecting-prints}
+use Rattle.laps.proofs.Printing.{prints, Closes, lasting, lasting-prints, Pays, closes, waits, expecting, expecting-prints}
 
 -- ---- the laps of a pass
 

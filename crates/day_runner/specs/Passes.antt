@@ -5,9 +5,9 @@ use mathlib.Core.Path.{_≡_}
 use mathlib.Core.Bool.{Bool, true, false, cond}
 use mathlib.Core.List.{List, [], _∷_, _++_}
 use lib.ListN.{length}
-use Rattle.day_runner.specs.System.{IsSent}
-use Rattle.day_runner.specs.Input.{Gave, came, interrupted, fault, filled}
-use Rattle.day_runner.specs.Laps.{Stand, blankStand, ran}
+use Rattle.streams.specs.System.{IsSent}
+use Rattle.streams.specs.Input.{Gave, came, interrupted, fault, filled}
+use Rattle.laps.specs.Laps.{Stand, blankStand, ran}
 
 -- a run once a read gave g; the lines of the pass before it are gone
 abbrev pub given : Stand → Gave → Stand

@@ -1,18 +1,15 @@
 // The day runner: it reads a day file of any length from standard input, in constant memory, and prints one line a record, then
 // `end` and the event number. A read or a write that fails ends the run with a message on standard error.
-use records::Running;
+use laps::records;
+use laps::records::Running;
+use streams::input;
+use streams::output;
 ghost use mathlib.Core.Path.{_≡_};
 ghost use mathlib.Core.Bool.{false};
 ghost use lib.ListN.{length};
-ghost use Rattle.day_runner.specs.Laps.{blankStand};
-ghost use Rattle.day_runner.specs.Progress.{Rests, standOf};
+ghost use Rattle.laps.specs.Laps.{blankStand};
+ghost use Rattle.laps.specs.Progress.{Rests, standOf};
 ghost use Rattle.day_runner.specs.Passes.{IsPass, IsRun};
-
-mod input;
-mod output;
-mod printed;
-mod records;
-mod system;
 
 // As many bytes as 1,023 of the shortest records: a pass lays a line for each and one for the end.
 const INPUT: usize = 6138;
@@ -30,9 +27,13 @@ fn pass(r: Running, bytes: &mut [u8], out: &mut [u8], page: &mut [u32]) -> Runni
 {
     let at = r.progress;
     let before = at.input;
-    let input = input::refill(bytes, before);
+    let input = input::refill(bytes, before, b"day_runner: cannot read standard input");
     let ran = records::run(records::refilled(r, input), bytes, out, page);
-    let went = output::write_out(out, ran.progress.written);
+    let went = output::write_out(
+        out,
+        ran.progress.written,
+        b"day_runner: cannot write standard output",
+    );
     records::flushed(ran, went)
 }
 

@@ -1,11 +1,14 @@
 -- `day_runner::pass` meets its contract.
 use mathlib.Core.Path.{sym, subst}
 use lib.ListN.{length}
-use Rattle.day_runner.specs.Progress.{Rests}
+use Rattle.laps.specs.Progress.{Rests}
 use Rattle.day_runner.proofs.Passing.{refilled-can-lay, pass-is, pass-rests}
 use borrow.Author.Needs.{needs}
 use Rattle.day_runner.proofs.pass.Statement.{statement}
 use Rattle.day_runner.proofs.pass.Tie as tie
+
+slice-aggregate-refill : tie.Need-slice-aggregate-refill
+slice-aggregate-refill c = search needs
 
 refill-requires : tie.Need-refill-requires
 refill-requires c κs = search needs
@@ -17,12 +20,15 @@ run-requires : tie.Need-run-requires
 run-requires c κs =
     let at-refilled = c .before .before .before in
     let at-refill = at-refilled .before .before .before in
-    let start = at-refill .before .before .before .before .before .before .before in
+    let start = at-refill .before .before .before .before .before .before .before .before in
     let a = start .args in
     let refill = at-refill .refill in
     refilled-can-lay (a .r .progress) _ _ _
     (subst (λ n. Rests (a .r .progress) n (length (a .out .now)) (length (a .page .now))) (sym (refill .kept .0)) (start .pre .0))
     (refill .result) (refill .ensures .0) (at-refilled .refilled .result .progress) (at-refilled .refilled .ensures .0)
+
+slice-aggregate-write-out : tie.Need-slice-aggregate-write-out
+slice-aggregate-write-out c = search needs
 
 write-out-requires : tie.Need-write-out-requires
 write-out-requires c κs = search needs
@@ -41,10 +47,10 @@ same-length-3 c = search needs
 
 returns : tie.Need-returns
 returns c =
-    let at-run = c .before .before .before .before .before .before .before in
+    let at-run = c .before .before .before .before .before .before .before .before in
     let at-refilled = at-run .before .before .before .before in
     let at-refill = at-refilled .before .before .before in
-    let start = at-refill .before .before .before .before .before .before .before in
+    let start = at-refill .before .before .before .before .before .before .before .before in
     let a = start .args in
     let refill = at-refill .refill in
     let ready = at-refilled .refilled in
@@ -67,9 +73,11 @@ pub pass-spec : {M : Type 1} → statement M
 pass-spec =
     tie.close
     (tie.spec
+    slice-aggregate-refill
     refill-requires
     refilled-requires
     run-requires
+    slice-aggregate-write-out
     write-out-requires
     flushed-requires
     same-length

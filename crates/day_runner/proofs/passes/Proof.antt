@@ -6,7 +6,7 @@ use native.Mathlib.Omega.{arith}
 use lib.ListN.{length}
 use borrow.Author.Tests.{not-true, not-false}
 use borrow.Author.Needs.{needs}
-use Rattle.day_runner.specs.Progress.{Rests, standOf}
+use Rattle.laps.specs.Progress.{Rests, standOf}
 use Rattle.day_runner.proofs.Passing.{Made, made-more}
 use Rattle.day_runner.proofs.passes.Statement.{statement}
 use Rattle.day_runner.proofs.passes.Tie as tie

@@ -1,0 +1,3 @@
+-- What an answer of the system comes to.
+pub mod Transfers
+pub mod Refilling
