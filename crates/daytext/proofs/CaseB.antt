@@ -2,8 +2,8 @@
 use mathlib.Core.Path.{_≡_, refl}
 use mathlib.Core.List.{[], _∷_, _++_}
 use Rattle.daytext.specs.declared.Line.the-variants.{Update, Read, Written, Page}
-use Rattle.daytext.specs.Ascii.{ascii}
-use Rattle.daytext.specs.Decimal.{decimal}
+use Rattle.texts.specs.Ascii.{ascii}
+use Rattle.texts.specs.Decimal.{decimal}
 use Rattle.daytext.specs.Lines.{bodyOf, textOf}
 
 -- events 4 and 19 to 21

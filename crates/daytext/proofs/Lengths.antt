@@ -5,10 +5,11 @@ use mathlib.Core.List.{List, [], _∷_, map}
 use lib.ListN.{length, length-append}
 use Rattle.daytext.specs.declared.Line.{Line}
 use Rattle.daytext.specs.declared.Line.the-variants.{Opened, Update, Scan, Read, Written, Page, Refused, End}
-use Rattle.daytext.specs.Decimal.{decimal}
-use Rattle.daytext.specs.Lines.{spaced, bodyOf, textOf}
+use Rattle.texts.specs.Decimal.{decimal}
+use Rattle.texts.specs.Laying.{spaced}
+use Rattle.daytext.specs.Lines.{bodyOf, textOf}
 use Rattle.daytext.specs.Buffer.{longest}
-use Rattle.daytext.proofs.Numerals.{decimal-short}
+use Rattle.texts.proofs.Numerals.{decimal-short}
 
 spaced-short : (ns : List ℕ) → length (spaced (map decimal ns)) ≤ 11 * length ns
 spaced-short [] = omega arith

@@ -1,5 +1,4 @@
--- Laws of numerals, of laying text and of the lines' lengths, and case B's lines as they are printed.
-pub mod Numerals
-pub mod Laying
+-- Where a line is laid, how long it is, and case B's lines as they are printed.
+pub mod Room
 pub mod Lengths
 pub mod CaseB

@@ -1,21 +1,12 @@
--- What it is to lay text into a lent buffer.
+-- What it is to lay a line into a lent buffer.
 use Prim.Native.Nat.{ℕ, _+_}
-use mathlib.Core.Path.{_≡_}
 use mathlib.Core.Bool.{Bool, cond, _&&_}
-use mathlib.Core.List.{List, _++_}
+use mathlib.Core.List.{List}
 use lib.Dec.{leb}
-use lib.ListN.{length, take, drop}
+use lib.ListN.{length}
+use Rattle.texts.specs.Laying.{withText}
 use Rattle.daytext.specs.declared.Line.{Line}
 use Rattle.daytext.specs.Lines.{textOf}
-
--- the buffer with the text from place at on, and as it was before and after the text
-unfoldable pub withText : List ℕ → ℕ → List ℕ → List ℕ
-withText out at text = take at out ++ text ++ drop (at + length text) out
-
--- the text was laid into the buffer out from place at on: the buffer after that, and the place r after the text
-pub record Laid (out : List ℕ) (at : ℕ) (text after : List ℕ) (r : ℕ) : Type 0 where
-  pub buffer : after ≡ withText out at text
-  pub end : r ≡ at + length text
 
 -- the bytes that are kept free for one line
 abbrev pub longest : ℕ

@@ -3,13 +3,9 @@ use Prim.Native.Nat.{ℕ}
 use mathlib.Core.List.{List, [], _∷_, _++_, map}
 use Rattle.daytext.specs.declared.Line.{Line}
 use Rattle.daytext.specs.declared.Line.the-variants.{Opened, Update, Scan, Read, Written, Page, Refused, End}
-use Rattle.daytext.specs.Ascii.{ascii}
-use Rattle.daytext.specs.Decimal.{decimal}
-
--- a space before each part
-abbrev pub spaced : List (List ℕ) → List ℕ
-spaced [] = []
-spaced (p ∷ ps) = ascii " " ++ (p ++ spaced ps)
+use Rattle.texts.specs.Ascii.{ascii}
+use Rattle.texts.specs.Decimal.{decimal}
+use Rattle.texts.specs.Laying.{spaced}
 
 -- "Single spaces": the first part, and each of the others after a space
 abbrev pub joined : List ℕ → List (List ℕ) → List ℕ

@@ -52,7 +52,6 @@ pub enum Line {
 pub const LONGEST: usize = 256;
 
 mod lines;
-mod put;
 
 // Lays the line at `at` of `out` and answers the place after it; `words` are those of a page. Where there are more than 8 words,
 // or fewer than LONGEST bytes are left, `out` stays as it is and the answer is `at`.
@@ -70,5 +69,5 @@ pub fn lay(line: Line, words: &[u32], out: &mut [u8], at: usize) -> usize
         return at;
     }
     let end = lines::body(line, words, out, at);
-    put::byte(b'\n', out, end)
+    texts::byte(b'\n', out, end)
 }

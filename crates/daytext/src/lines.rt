@@ -1,16 +1,16 @@
 // What the lines tell, laid part by part. The answer is the place after what was laid.
+use crate::Line;
+use texts::bytes;
+use texts::field;
+use texts::number;
+use texts::numbers;
 ghost use Prim.Native.Nat.{_+_, _≤_};
 ghost use mathlib.Core.List.{[], _++_};
 ghost use lib.ListN.{length};
-ghost use Rattle.daytext.specs.Ascii.{ascii};
-ghost use Rattle.daytext.specs.Decimal.{decimal};
+ghost use Rattle.texts.specs.Ascii.{ascii};
+ghost use Rattle.texts.specs.Decimal.{decimal};
 ghost use Rattle.daytext.specs.Lines.{bodyOf};
-ghost use Rattle.daytext.specs.Buffer.{Laid};
-use crate::Line;
-use crate::put::bytes;
-use crate::put::field;
-use crate::put::number;
-use crate::put::numbers;
+ghost use Rattle.texts.specs.Laying.{Laid};
 
 // Lays what a line tells, without its line feed.
 pub fn body(line: Line, words: &[u32], out: &mut [u8], at: usize) -> usize

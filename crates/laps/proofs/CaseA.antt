@@ -18,8 +18,8 @@ use Rattle.dayfile.specs.Reader.{recordOf, reading}
 use Rattle.dayfile.specs.Files.{readingsUpTo, readings}
 use Rattle.days.specs.Asking.{lentTo}
 use Rattle.days.specs.Happenings.{dayOf}
-use Rattle.daytext.specs.Ascii.{ascii}
-use Rattle.daytext.specs.Decimal.{decimal}
+use Rattle.texts.specs.Ascii.{ascii}
+use Rattle.texts.specs.Decimal.{decimal}
 use Rattle.daytext.specs.Lines.{bodyOf, textOf}
 use Rattle.laps.specs.Printed.{printout, printed, printedUntil}
 

@@ -22,8 +22,10 @@ use Rattle.days.specs.Happenings.{Happening, boxAfter, happeningIn}
 use Rattle.days.proofs.Kept.{words-few}
 use Rattle.daytext.specs.declared.Line.{Line}
 use Rattle.daytext.specs.Lines.{textOf}
-use Rattle.daytext.specs.Buffer.{withText, longest, isLaid, laidPlace, laidText}
-use Rattle.daytext.proofs.Laying.{take-laid, laid-with-room}
+use Rattle.texts.specs.Laying.{withText}
+use Rattle.daytext.specs.Buffer.{longest, isLaid, laidPlace, laidText}
+use Rattle.texts.proofs.Laying.{take-laid}
+use Rattle.daytext.proofs.Room.{laid-with-room}
 use Rattle.daytext.proofs.Lengths.{line-fits}
 use Rattle.streams.specs.declared.input.Input.{Input}
 use Rattle.laps.specs.declared.records.Progress.{Progress}

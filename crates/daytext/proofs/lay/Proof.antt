@@ -4,7 +4,8 @@ use mathlib.Core.Path.{_≡_, sym, _∙_}
 use mathlib.Core.List.{List}
 use borrow.Author.Needs.{needs}
 use Rattle.daytext.specs.Lines.{textOf}
-use Rattle.daytext.proofs.Laying.{in-turn, laid-with-room, kept-with-more-words, kept-with-fewer-bytes}
+use Rattle.texts.proofs.Laying.{in-turn}
+use Rattle.daytext.proofs.Room.{laid-with-room, kept-with-more-words, kept-with-fewer-bytes}
 use Rattle.daytext.proofs.lay.Statement.{statement}
 use Rattle.daytext.proofs.lay.Tie as tie
 

@@ -1,6 +1,6 @@
 -- `daytext::lines::lent` meets its contract.
 use native.Mathlib.Omega.{arith}
-use Rattle.daytext.proofs.Laying.{in-turn}
+use Rattle.texts.proofs.Laying.{in-turn}
 use borrow.Author.Needs.{needs}
 use Rattle.daytext.proofs.lines.lent.Statement.{statement}
 use Rattle.daytext.proofs.lines.lent.Tie as tie

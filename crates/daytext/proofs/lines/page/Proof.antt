@@ -4,10 +4,11 @@ use native.Mathlib.Omega.{arith}
 use mathlib.Core.Path.{_≡_}
 use mathlib.Core.List.{List, _++_, map, append-assoc}
 use Rattle.daytext.specs.declared.Line.the-variants.{Page}
-use Rattle.daytext.specs.Ascii.{ascii}
-use Rattle.daytext.specs.Decimal.{decimal}
-use Rattle.daytext.specs.Lines.{spaced, bodyOf}
-use Rattle.daytext.proofs.Laying.{in-turn, laid-as}
+use Rattle.texts.specs.Ascii.{ascii}
+use Rattle.texts.specs.Decimal.{decimal}
+use Rattle.texts.specs.Laying.{spaced}
+use Rattle.daytext.specs.Lines.{bodyOf}
+use Rattle.texts.proofs.Laying.{in-turn, laid-as}
 use borrow.Author.Needs.{needs}
 use Rattle.daytext.proofs.lines.page.Statement.{statement}
 use Rattle.daytext.proofs.lines.page.Tie as tie

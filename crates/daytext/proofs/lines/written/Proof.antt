@@ -2,7 +2,7 @@
 use mathlib.Core.List.{append-assoc, append-nil}
 use native.Mathlib.Omega.{arith}
 use Rattle.daytext.specs.Lines.{bodyOf}
-use Rattle.daytext.proofs.Laying.{in-turn}
+use Rattle.texts.proofs.Laying.{in-turn}
 use borrow.Author.Needs.{needs}
 use Rattle.daytext.proofs.lines.written.Statement.{statement}
 use Rattle.daytext.proofs.lines.written.Tie as tie

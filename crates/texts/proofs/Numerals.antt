@@ -9,7 +9,7 @@ use mathlib.Core.List.{List, [], _∷_, _++_}
 use borrow.Author.Tests.{lt-ltb, le-ltb}
 use lib.ListN.{length, getD, length-append, List·getD-append}
 use lib.Seq.{getD-at}
-use Rattle.daytext.specs.Decimal.{lastDigit, numeral, decimal, lastDigits, valueAfter, Digit, IsNumeral}
+use Rattle.texts.specs.Decimal.{lastDigit, numeral, decimal, lastDigits, valueAfter, Digit, IsNumeral}
 
 -- ---- the two cases of a numeral
 

@@ -5,9 +5,9 @@ use mathlib.Core.Path.{_≡_, refl, sym, ap, _∙_}
 use borrow.Author.Needs.{needs}
 use lib.ListN.{length, getD, set, length-set}
 use lib.Seq.{paste, paste-zero, paste-suc, take-length}
-use Rattle.daytext.specs.Buffer.{withText}
-use Rattle.daytext.proofs.put.bytes.Statement.{statement}
-use Rattle.daytext.proofs.put.bytes.Tie as tie
+use Rattle.texts.specs.Laying.{withText}
+use Rattle.texts.proofs.bytes.Statement.{statement}
+use Rattle.texts.proofs.bytes.Tie as tie
 
 -- the first i bytes are laid
 abbrev Inv-loop : tie.InvT-loop

@@ -4,12 +4,12 @@ use mathlib.Core.List.{List}
 use mathlib.Core.Path.{_≡_, refl, sym, ap, _∙_}
 use borrow.Author.Needs.{needs}
 use lib.ListN.{length, set, length-set}
-use Rattle.daytext.specs.Decimal.{lastDigit, lastDigits}
-use Rattle.daytext.specs.Buffer.{withText}
-use Rattle.daytext.proofs.Numerals.{length-last-digits}
-use Rattle.daytext.proofs.Laying.{laid-nothing, laid-last}
-use Rattle.daytext.proofs.put.digits.Statement.{statement}
-use Rattle.daytext.proofs.put.digits.Tie as tie
+use Rattle.texts.specs.Decimal.{lastDigit, lastDigits}
+use Rattle.texts.specs.Laying.{withText}
+use Rattle.texts.proofs.Numerals.{length-last-digits}
+use Rattle.texts.proofs.Laying.{laid-nothing, laid-last}
+use Rattle.texts.proofs.digits.Statement.{statement}
+use Rattle.texts.proofs.digits.Tie as tie
 
 -- the last digit stored, and those before it laid, are all of them laid
 laid-digit : (out : List ℕ) (at j rest : ℕ) → at + j < length out

@@ -1,11 +1,10 @@
-// What the lines are made of, bytes and numbers, laid at a place of the buffer. The answer is the place after what was laid.
+// Bytes and numbers as text, laid at a place of a lent buffer. The answer is the place after what was laid.
 ghost use mathlib.Core.Path.{_≡_};
 ghost use Prim.Native.Nat.{_+_, _*_, _≤_};
 ghost use mathlib.Core.List.{[], _∷_, _++_, map};
 ghost use lib.ListN.{length};
-ghost use Rattle.daytext.specs.Decimal.{decimal, lastDigits};
-ghost use Rattle.daytext.specs.Lines.{spaced};
-ghost use Rattle.daytext.specs.Buffer.{withText, Laid};
+ghost use Rattle.texts.specs.Decimal.{decimal, lastDigits};
+ghost use Rattle.texts.specs.Laying.{spaced, withText, Laid};
 
 // Lays one byte.
 pub fn byte(b: u8, out: &mut [u8], at: usize) -> usize

@@ -1,8 +1,8 @@
 use native.Mathlib.Omega.{arith}
 use borrow.Author.Needs.{needs}
-use Rattle.daytext.proofs.Laying.{in-turn}
-use Rattle.daytext.proofs.put.field.Statement.{statement}
-use Rattle.daytext.proofs.put.field.Tie as tie
+use Rattle.texts.proofs.Laying.{in-turn}
+use Rattle.texts.proofs.field.Statement.{statement}
+use Rattle.texts.proofs.field.Tie as tie
 
 bytes-requires : tie.Need-bytes-requires
 bytes-requires c κs = search needs

@@ -7,12 +7,12 @@ use mathlib.Core.List.{List, [], _∷_, _++_, map, append-assoc, append-nil}
 use borrow.Author.Needs.{needs}
 use lib.ListN.{length, getD, take}
 use lib.Seq.{take-all}
-use Rattle.daytext.specs.Decimal.{decimal}
-use Rattle.daytext.specs.Lines.{spaced}
-use Rattle.daytext.specs.Buffer.{Laid}
-use Rattle.daytext.proofs.Laying.{laid-nothing, in-turn}
-use Rattle.daytext.proofs.put.numbers.Statement.{statement}
-use Rattle.daytext.proofs.put.numbers.Tie as tie
+use Rattle.texts.specs.Decimal.{decimal}
+use Rattle.texts.specs.Laying.{spaced}
+use Rattle.texts.specs.Laying.{Laid}
+use Rattle.texts.proofs.Laying.{laid-nothing, in-turn}
+use Rattle.texts.proofs.numbers.Statement.{statement}
+use Rattle.texts.proofs.numbers.Tie as tie
 
 -- one number more
 spaced-more : (ns : List ℕ) (i : ℕ) → i < length ns

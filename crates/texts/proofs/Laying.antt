@@ -4,14 +4,9 @@ use native.Mathlib.Nat.{add-zero}
 use native.Mathlib.Omega.{arith}
 use mathlib.Core.Path.{_≡_, sym, ap, ap₂, _∙_}
 use mathlib.Core.List.{List, [], _∷_, _++_, append-assoc, append-nil}
-use borrow.Author.Tests.{le-leb, lt-leb}
 use lib.ListN.{length, take, drop, set, length-append, take-append-drop}
 use lib.Seq.{length-take-le, take-at, drop-at, drop-drop, set-split, take-set-le}
-use Rattle.daytext.specs.declared.Line.{Line}
-use Rattle.daytext.specs.Lines.{textOf}
-use Rattle.daytext.specs.Buffer.{withText, Laid, longest, isLaid, laidPlace, laidText}
-
--- ---- text
+use Rattle.texts.specs.Laying.{withText, Laid}
 
 module _ (out : List ℕ) (at : ℕ) where
   length-front : (s : List ℕ) → at ≤ length out → length (take at out ++ s) ≡ at + length s
@@ -73,26 +68,3 @@ in-turn {out} {at} {s} {t = t} h one two =
 
 pub laid-as : {out : List ℕ} {at : ℕ} {s t after : List ℕ} {r : ℕ} → s ≡ t → Laid out at s after r → Laid out at t after r
 laid-as e l = rw e at l
-
--- ---- a line
-
-module _ (line : Line) (ws out : List ℕ) (at : ℕ) where
-  pub laid-with-room : length ws ≤ 8 → at + longest ≤ length out
-      → (laidPlace line ws out at ≡ at + length (textOf line ws)) × (laidText line ws out at ≡ withText out at (textOf line ws))
-  unfolding laidPlace laidText isLaid
-  laid-with-room w h =
-      let e = le-leb (length ws) 8 w in
-      let f = le-leb (at + longest) (length out) h in
-      (simp (e, f), simp (e, f))
-
-  pub kept-with-more-words : 8 < length ws → (laidPlace line ws out at ≡ at) × (laidText line ws out at ≡ out)
-  unfolding laidPlace laidText isLaid
-  kept-with-more-words w = let e = lt-leb (length ws) 8 w in (simp e, simp e)
-
-  pub kept-with-fewer-bytes : length ws ≤ 8 → length out < at + longest
-      → (laidPlace line ws out at ≡ at) × (laidText line ws out at ≡ out)
-  unfolding laidPlace laidText isLaid
-  kept-with-fewer-bytes w h =
-      let e = le-leb (length ws) 8 w in
-      let f = lt-leb (at + longest) (length out) h in
-      (simp (e, f), simp (e, f))

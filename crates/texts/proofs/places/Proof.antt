@@ -1,7 +1,7 @@
 use native.Mathlib.Omega.{arith}
-use Rattle.daytext.proofs.Numerals.{decimal-places}
-use Rattle.daytext.proofs.put.places.Statement.{statement}
-use Rattle.daytext.proofs.put.places.Tie as tie
+use Rattle.texts.proofs.Numerals.{decimal-places}
+use Rattle.texts.proofs.places.Statement.{statement}
+use Rattle.texts.proofs.places.Tie as tie
 
 returns : tie.Need-returns
 returns c = decimal-places 1 _ (omega arith) (omega arith) (omega arith)

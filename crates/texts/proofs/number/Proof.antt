@@ -3,11 +3,11 @@ use native.Mathlib.Omega.{arith}
 use mathlib.Core.Path.{_≡_, sym, ap, _∙_}
 use borrow.Author.Needs.{needs}
 use lib.ListN.{length}
-use Rattle.daytext.specs.Decimal.{decimal}
-use Rattle.daytext.specs.Buffer.{withText}
-use Rattle.daytext.proofs.Numerals.{decimal-digit, decimal-short, length-last-digits}
-use Rattle.daytext.proofs.put.number.Statement.{statement}
-use Rattle.daytext.proofs.put.number.Tie as tie
+use Rattle.texts.specs.Decimal.{decimal}
+use Rattle.texts.specs.Laying.{withText}
+use Rattle.texts.proofs.Numerals.{decimal-digit, decimal-short, length-last-digits}
+use Rattle.texts.proofs.number.Statement.{statement}
+use Rattle.texts.proofs.number.Tie as tie
 
 -- as many digits as the numeral has, and at most ten
 count : (c : tie.After-places)

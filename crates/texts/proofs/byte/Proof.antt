@@ -1,8 +1,8 @@
 use mathlib.Core.Path.{refl}
 use borrow.Author.Needs.{needs}
-use Rattle.daytext.proofs.Laying.{laid-byte}
-use Rattle.daytext.proofs.put.byte.Statement.{statement}
-use Rattle.daytext.proofs.put.byte.Tie as tie
+use Rattle.texts.proofs.Laying.{laid-byte}
+use Rattle.texts.proofs.byte.Statement.{statement}
+use Rattle.texts.proofs.byte.Tie as tie
 
 slice-write-out : tie.Need-slice-write-out
 slice-write-out c = search needs

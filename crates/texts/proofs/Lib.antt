@@ -1,0 +1,3 @@
+-- Laws of numerals and of laying text.
+pub mod Numerals
+pub mod Laying
