@@ -2,17 +2,14 @@
 use Prim.Native.Nat.{ℕ}
 use mathlib.Core.Path.{_≡_, refl}
 use mathlib.Core.List.{List, [], _∷_, _++_, map}
-use Rattle.snapshot.specs.Refusals.{numberOf}
-use Rattle.dayfile.specs.declared.Reading.{Reading}
-use Rattle.dayfile.specs.declared.Reading.the-variants.{Found, End, Refused}
 use Rattle.dayfile.specs.Layout.{lengthOf}
-use Rattle.dayfile.specs.Reader.{reading}
+use Rattle.dayfile.specs.Reader.{reading, ReaderReply, found, ended, refused, readerReply}
 
 -- the number of a refusal, and 0 where there is none
-abbrev refusedBy : Reading → ℕ
-refusedBy (Found r next) = 0
-refusedBy End = 0
-refusedBy (Refused k) = numberOf k
+abbrev refusedBy : ReaderReply → ℕ
+refusedBy (found x bytes) = 0
+refusedBy ended = 0
+refusedBy (refused k) = k
 
 -- bytes that begin with these, and the number that the reader gives
 pub record Example : Type 0 where
@@ -58,6 +55,6 @@ orders =
 abbrev examples : List Example
 examples = smallExamples ++ limits ++ orders
 
-pub examples-follow : map (λ x. refusedBy (reading (x .bytes))) examples ≡ map (λ x. x .number) examples
+pub examples-follow : map (λ x. refusedBy (readerReply (reading (x .bytes)))) examples ≡ map (λ x. x .number) examples
 unfolding reading lengthOf
 examples-follow = refl

@@ -6,7 +6,7 @@ use mathlib.Core.List.{List, [], _∷_}
 use mathlib.Core.Option.{Option, none, some}
 use lib.ListN.{length}
 use lib.Dec.{eqb, ltb}
-use Rattle.snapshot.specs.Refusals.{Cause, firstCause}
+use Rattle.snapshot.specs.Refusals.{Cause, firstCause, numberOf}
 use Rattle.snapshot.specs.declared.Refusal.{Refusal}
 use Rattle.snapshot.specs.declared.Refusal.the-variants.{CutShort, UnknownKind, WrongLength}
 use Rattle.snapshot.specs.declared.Request.{Request}
@@ -49,3 +49,15 @@ readingBy bs (some k) = Refused k
 -- the reader's answer; "No bytes left is the ordinary end"
 unfoldable pub reading : List ℕ → Reading
 reading bs = cond (eqb (length bs) 0) End (readingBy bs (firstCause (readingCauses bs)))
+
+-- what the reader answers as document 01 states it: a record and how many bytes it takes, the ordinary end, or a refusal's number
+pub data ReaderReply : Type 0 where
+  found : Request → (bytes : ℕ) → ReaderReply
+  ended : ReaderReply
+  refused : (number : ℕ) → ReaderReply
+
+-- the paper's number and values of each case of what the reader answers
+abbrev pub readerReply : Reading → ReaderReply
+readerReply (Found x next) = found x next
+readerReply End = ended
+readerReply (Refused k) = refused (numberOf k)

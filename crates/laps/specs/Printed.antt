@@ -2,13 +2,14 @@
 use Prim.Native.Nat.{ℕ}
 use mathlib.Core.Bool.{Bool, true, false}
 use mathlib.Core.List.{List, [], _∷_, _++_}
-use Rattle.snapshot.specs.Refusals.{numberOf}
 use Rattle.snapshot.specs.Requests.{blankDay, numberIn}
 use Rattle.snapshot.specs.declared.Day.{Day}
 use Rattle.snapshot.specs.declared.Request.{Request}
 use Rattle.snapshot.specs.declared.Request.the-variants as Asked
 use Rattle.snapshot.specs.declared.Answer.{Answer}
-use Rattle.snapshot.specs.declared.Answer.the-variants as Told
+use Rattle.snapshot.specs.Replies.{Reply, refused, opened, called, read, page, written, replyOf}
+use Rattle.dayfile.specs.Reader as Reader
+use Rattle.dayfile.specs.Reader.{ReaderReply, found, ended, readerReply}
 use Rattle.dayfile.specs.declared.Reading.{Reading}
 use Rattle.dayfile.specs.declared.Reading.the-variants.{Found, End, Refused}
 use Rattle.days.specs.Happenings.{Happening, dayOf, dayAfter, recordsIn}
@@ -24,20 +25,26 @@ callLine e (Asked.Update d w) = Printed.Update e d w
 callLine e (Asked.Scan d) = Printed.Scan e d
 callLine e (Asked.Turn d) = Printed.Read e d
 
--- the line of a request by its answer, with the event number afterwards
+-- the line of a request by its reply, with the event number afterwards; the words of a page stand beside its line
+abbrev pub replyLine : Request → ℕ → Reply ℕ → Line
+replyLine x e (refused k) = Printed.Refused k
+replyLine x e opened = Printed.Opened (numberIn x)
+replyLine x e called = callLine e x
+replyLine x e read = Printed.Read e (numberIn x)
+replyLine x e (page lender at turns ws) = Printed.Page e (numberIn x) lender at turns
+replyLine x e (written turns) = Printed.Written e (numberIn x) turns
+
 abbrev pub answerLine : Request → ℕ → Answer → Line
-answerLine x e (Told.Refused k) = Printed.Refused (numberOf k)
-answerLine x e Told.Opened = Printed.Opened (numberIn x)
-answerLine x e Told.Called = callLine e x
-answerLine x e Told.Read = Printed.Read e (numberIn x)
-answerLine x e (Told.Page lender at turns) = Printed.Page e (numberIn x) lender at turns
-answerLine x e (Told.Written turns) = Printed.Written e (numberIn x) turns
+answerLine x e a = replyLine x e (replyOf [] a)
 
 -- the line of what was read, where asking it had outcome o: "Refusals 7, 8 and 9 end the file", "then `end` and the event number"
+abbrev pub readerLine : Outcome → ReaderReply → Line
+readerLine o (found x bytes) = answerLine x (o .day .event) (o .answer)
+readerLine o ended = Printed.End (o .day .event)
+readerLine o (Reader.refused k) = Printed.Refused k
+
 abbrev pub lineOf : Outcome → Reading → Line
-lineOf o (Found x next) = answerLine x (o .day .event) (o .answer)
-lineOf o End = Printed.End (o .day .event)
-lineOf o (Refused k) = Printed.Refused (numberOf k)
+lineOf o x = readerLine o (readerReply x)
 
 abbrev pub isEnd : Reading → Bool
 isEnd (Found x next) = false
