@@ -20,9 +20,8 @@ use Rattle.snapshot.specs.declared.Refusal.{Refusal}
 use Rattle.snapshot.specs.declared.Refusal.the-variants.{Idle}
 use Rattle.snapshot.specs.declared.Request.{Request}
 use Rattle.snapshot.specs.declared.Request.the-variants.{Open, Update, Scan, Turn}
-use Rattle.snapshot.proofs.Booleans.{or-neither, not-false}
-use Rattle.snapshot.proofs.Causes.{Passes, accepted-passes, first-none, first-some}
-use Rattle.snapshot.proofs.Demand3.{outside-among}
+use Rattle.snapshot.proofs.Causes.{accepted-passes, first-none, first-some}
+use Rattle.snapshot.proofs.Admitted.{someBad, Suited, Admitted, suits, admitted}
 use Rattle.admission.specs.Requests.{itemOf, isOpening, isCall}
 use Rattle.admission.specs.Checks.{isRefusal, openingChecks, isShort, firstCauses, wrongState, lastCauses}
 
@@ -45,10 +44,6 @@ opening-checks M s k = refl
 
 -- ---- calls and turns
 
--- some record of the table cannot have arisen
-abbrev pub someBad : (M : Machine) → State (M .Process) → Bool
-someBad M s = someOf (M .unsound (s .day .count) (s .day .event)) (s .table)
-
 -- the causes of the two checks of a request with a page list: the first by whether a bad record was seen
 abbrev pub firstOf : (M : Machine) → State (M .Process) → (page : List ℕ) → Request → (bad : Bool) → List Cause
 firstOf M s page x bad =
@@ -57,46 +52,13 @@ firstOf M s page x bad =
 abbrev pub lastOf : (M : Machine) → State (M .Process) → Request → List Cause
 lastOf M s x = lastCauses (s .day .event) x (M .isIdle (processOf M s (numberIn x)))
 
--- what is known of a request that the first check passes
-pub record Suited (M : Machine) (s : State (M .Process)) (page : List ℕ) (x : Request) : Type 0 where
-  pub opened : 0 < s .day .count
-  pub size : length (s .table) ≡ s .day .count
-  pub fits : isShort (s .day) (length page) x ≡ false
-  pub small : s .day .count ≤ 8
-  pub limit : s .day .event ≤ 65535
-  pub sound : someBad M s ≡ false
-  pub among : Among (s .day .count) (numberIn x)
+-- what is known of a request that the first check passes, and of one that is accepted
+abbrev pub Passed : (M : Machine) → State (M .Process) → (page : List ℕ) → Request → Type 0
+Passed M s page x = Suited M s (numberIn x) (isShort (s .day) (length page) x)
 
--- what is known of one that is accepted
-pub record Accepted (M : Machine) (s : State (M .Process)) (page : List ℕ) (x : Request) : Type 0 where
-  pub opened : 0 < s .day .count
-  pub size : length (s .table) ≡ s .day .count
-  pub fits : isShort (s .day) (length page) x ≡ false
-  pub small : s .day .count ≤ 8
-  pub sound : someBad M s ≡ false
-  pub among : Among (s .day .count) (numberIn x)
-  pub right : wrongState x (M .isIdle (processOf M s (numberIn x))) .0 ≡ false
-  pub room : s .day .event < 65535
-
--- no first cause holds
-suited : (M : Machine) (s : State (M .Process)) (page : List ℕ) (x : Request) →
-    Passes (firstOf M s page x (someBad M s)) → Suited M s page x
-suited M s page x w =
-    let n = s .day .count in
-    let e = s .day .event in
-    let sizes = or-neither (not (eqb (length (s .table)) n)) (isShort (s .day) (length page) x) (w .1 .0) in
-    let arises = or-neither (ltb 8 n) (ltb 65535 e || someBad M s) (w .1 .1 .0) in
-    let early = or-neither (ltb 65535 e) (someBad M s) (arises .1) in
-    let open-day = eqb-false n 0 (w .0) in
-    record {
-      opened = omega arith;
-      size = eqb-true (length (s .table)) n (not-false (eqb (length (s .table)) n) (sizes .0));
-      fits = sizes .1;
-      small = ltb-false 8 n (arises .0);
-      limit = ltb-false 65535 e (early .0);
-      sound = early .1;
-      among = outside-among n (numberIn x) (w .1 .1 .1 .0);
-    }
+abbrev pub Accepted : (M : Machine) → State (M .Process) → (page : List ℕ) → Request → Type 0
+Accepted M s page x =
+    Admitted M s (numberIn x) (isShort (s .day) (length page) x) (wrongState x (M .isIdle (processOf M s (numberIn x))))
 
 -- of a turn: the page list has a word for each process, and the process is not idle
 pub accepted-turn : (M : Machine) (s : State (M .Process)) (page : List ℕ) (x : Request) →
@@ -105,7 +67,7 @@ pub accepted-turn : (M : Machine) (s : State (M .Process)) (page : List ℕ) (x 
 accepted-turn M s page (Open k) h c a = absurd h
 accepted-turn M s page (Update d w) h c a = absurd c
 accepted-turn M s page (Scan d) h c a = absurd c
-accepted-turn M s page (Turn d) h c a = (ltb-false (length page) (s .day .count) (a .fits), a .right)
+accepted-turn M s page (Turn d) h c a = (ltb-false (length page) (s .day .count) (a .suited .long), a .right)
 
 -- what a survey says of the records matters only on a day for 1 to 8 processes
 first-same : (M : Machine) (s : State (M .Process)) (page : List ℕ) (x : Request) (bad : Bool) →
@@ -130,22 +92,9 @@ module _ (M : Machine) (lengths : (n : ℕ) → M .pageLength n ≡ n) (s : Stat
 
   module _ (x : Request) (item : T (not (isOpening x))) where
     pub accepted-item : refusal M s (itemOf page x) ≡ none → Accepted M s page x
-    unfolding isFull
     accepted-item q =
-        let w = accepted-passes (firstOf M s page x (someBad M s) ++ lastOf M s x) (sym (refusal-parts x item) ∙ q) in
-        let a = suited M s page x (w .0, (w .1 .0, (w .1 .1 .0, (w .1 .1 .1 .0, tt)))) in
-        let full = eqb-false (s .day .event) 65535 (w .1 .1 .1 .1 .1 .0) in
-        let limit = a .limit in
-        record {
-          opened = a .opened;
-          size = a .size;
-          fits = a .fits;
-          small = a .small;
-          sound = a .sound;
-          among = a .among;
-          right = w .1 .1 .1 .1 .0;
-          room = omega arith;
-        }
+        admitted M s (numberIn x) (isShort (s .day) (length page) x) (wrongState x (M .isIdle (processOf M s (numberIn x))))
+        (sym (refusal-parts x item) ∙ q)
 
     -- a survey, which is true where it matters, and the first check by it
     module _ (bad : Bool) (surveyed : 0 < s .day .count → s .day .count ≤ 8 → bad ≡ someBad M s) where
@@ -156,10 +105,11 @@ module _ (M : Machine) (lengths : (n : ℕ) → M .pageLength n ≡ n) (s : Stat
           ∙ first-some (firstOf M s page x (someBad M s)) (lastOf M s x) k (first-same M s page x bad surveyed ∙ q)
 
       pub first-passes : firstCause (firstOf M s page x bad) ≡ none →
-          (refusal M s (itemOf page x) ≡ firstCause (lastOf M s x)) × Suited M s page x
+          (refusal M s (itemOf page x) ≡ firstCause (lastOf M s x)) × Passed M s page x
       first-passes q =
           let cs = firstOf M s page x (someBad M s) in
           let p = first-same M s page x bad surveyed ∙ q in (
             refusal-parts x item ∙ first-none cs (lastOf M s x) p,
-            suited M s page x (accepted-passes cs p),
+            (let w = accepted-passes cs p in
+                suits M s (numberIn x) (isShort (s .day) (length page) x) (w .0) (w .1 .0) (w .1 .1 .0) (w .1 .1 .1 .0)),
           )

@@ -26,7 +26,8 @@ use Rattle.admission.specs.Checks.{isRefusal, lastCauses}
 use Rattle.admission.specs.Checks.{openingRefusal, firstRefusal, lastRefusal}
 use Rattle.admission.specs.Outcomes.{refusedOutcome, acceptedOutcome, openedOutcome}
 use Rattle.admission.specs.declared.Survey.{Survey}
-use Rattle.admission.proofs.Checked.{opening-checks, refused-some, someBad, Suited, Accepted, accepted-item, accepted-turn}
+use Rattle.snapshot.proofs.Admitted.{someBad}
+use Rattle.admission.proofs.Checked.{opening-checks, refused-some, Passed, Accepted, accepted-item, accepted-turn}
 use Rattle.admission.proofs.Checked.{first-refuses, first-passes}
 use Rattle.unbounded.specs.declared.Register.{Register}
 use Rattle.unbounded.specs.declared.Process.{Process}
@@ -151,12 +152,12 @@ module _ (day : Day) (ps : List Process) where
       passes : (page : List ℕ) → length page ≡ words →
           (refusalIn s (itemOf page x) ≡ firstCause (lastCauses (day .event) x
           (isIdle (processOf (figure3 ascending) s (numberIn x) .task))))
-          × Suited (figure3 ascending) s page x
+          × Passed (figure3 ascending) s page x
       passes page q =
           first-passes (figure3 ascending) (λ n. refl) s page x item (surveyed .bad) seen
           (ap (firstRefusal day (length ps) surveyed x) q ∙ passed)
 
-      suits : Suited (figure3 ascending) s (replicate words 0) x
+      suits : Passed (figure3 ascending) s (replicate words 0) x
       suits = passes (replicate words 0) (length-replicate words 0) .1
 
       -- the process is one of the table's
@@ -181,10 +182,10 @@ module _ (day : Day) (ps : List Process) where
     admits = accepted-item (figure3 ascending) (λ n. refl) s page x item accepted
 
     pub admits-day : Admits day
-    admits-day = record { some = admits .opened; small = admits .small; room = admits .room }
+    admits-day = record { some = admits .suited .opened; small = admits .suited .small; room = admits .room }
 
     pub admits-inside : numberIn x - 1 < length ps
-    admits-inside = let n = admits .among in let l = admits .size in omega arith
+    admits-inside = let n = admits .suited .among in let l = admits .suited .size in omega arith
 
   pub called-leaves : (page : List ℕ) (x : Request) → T (isCall x) → let i = numberIn x - 1 in
       Leaves (acceptedIn s (itemOf page x)) (acceptedOutcome day Called)
@@ -230,9 +231,9 @@ module _ (day : Day) (ps : List Process) where
         let a = admits page x item accepted in
         let inside = admits-inside page x item accepted in
         let room = a .room in
-        let few = sound-has-room (day .count) (day .event) p (a .small) (omega arith)
-        (some-of-false (unsound (mostReads (day .count)) (day .event)) ps noProcess (a .sound) i inside) in
-        let size = a .size in
+        let few = sound-has-room (day .count) (day .event) p (a .suited .small) (omega arith)
+        (some-of-false (unsound (mostReads (day .count)) (day .event)) ps noProcess (a .suited .sound) i inside) in
+        let size = a .suited .size in
         record {
           allows = admits-day page x item accepted;
           full = omega arith;

@@ -26,7 +26,8 @@ use Rattle.snapshot.specs.Days.{Machine, State, Item, openFor, updateCal
 use Rattle.snapshot.specs.Days.{outside, isFull, cannotArise, processOf, openingCauses, causes, callCauses, turnCauses}
 use Rattle.snapshot.specs.Days.{refusal}
 use Rattle.snapshot.specs.Days.{openedBy, advance, calledBy, readFrom, turnBy, accept, method, openedFor}
-use Rattle.snapshot.proofs.Booleans.{or-neither, not-false}
+use Rattle.snapshot.proofs.Booleans.{not-false}
+use Rattle.snapshot.proofs.Admitted.{outside-among, Admitted, admitted-call, admitted-turn}
 use Rattle.snapshot.proofs.Causes.{accepted-passes, Avoids, refused-avoids, refused-first}
 use Rattle.snapshot.proofs.Lists.{some-of-none, map-set, map-replicate, map-constant, list-is-each, each-cong}
 use Rattle.snapshot.proofs.Owed.{Owed, Deed, call-deed, read-deed, page-deed, write-deed, actor}
@@ -35,17 +36,6 @@ use Rattle.snapshot.proofs.Works.{Owns, processAt, pageAt, turnAt, Even
 use Rattle.snapshot.proofs.Works.{TurnDeed, turn-reads, turn-pages, turn-writes}
 
 -- ---- tests
-
-pub outside-among : (n d : ℕ) → outside 1 n d ≡ false → Among n d
-outside-among n d h =
-    let t = or-neither (ltb d 1) (ltb n d) h in
-    let a = ltb-false d 1 (t .0) in
-    let b = ltb-false n d (t .1) in
-    (omega arith, omega arith)
-
-full-false : (e : ℕ) → isFull e ≡ false → e ≢ 65535
-unfolding isFull
-full-false e h = eqb-false e 65535 h
 
 -- refusals with different numbers are different
 apart : (a b : Refusal) → numberOf a ≢ numberOf b → a ≢ b
@@ -133,21 +123,11 @@ module _ (M : Machine) (n : ℕ) (W : (H : ℕ → State (M .Process)) → Works
     -- ---- accepted items
 
     -- what acceptance tells of a call or a turn
-    record Accepted (d : ℕ) (wrong : Cause) : Type 0 where
-      among : Among n d
-      right : wrong .0 ≡ false
-      room : e < 65535
+    among : {d : ℕ} {short : Bool} {wrong : Cause} → Admitted M (H e) d short wrong → Among n d
+    among {d} ok = subst (λ k. Among k d) (A .count) (ok .suited .among)
 
-    accepted : (d : ℕ) (short : Bool) (wrong : Cause) → firstCause (causes M (H e) d short wrong) ≡ none → Accepted d wrong
-    accepted d short wrong q =
-        let w = accepted-passes (causes M (H e) d short wrong) q in
-        let full = full-false (H e .day .event) (w .1 .1 .1 .1 .1 .0) in
-        let l = A .limit in
-        record {
-          among = outside-among n d (ap (λ k. outside 1 k d) (sym (A .count)) ∙ w .1 .1 .1 .0);
-          right = w .1 .1 .1 .1 .0;
-          room = omega arith;
-        }
+    not-full : {d : ℕ} {short : Bool} {wrong : Cause} → Admitted M (H e) d short wrong → e < 65535
+    not-full ok = subst (λ k. k < 65535) number (ok .room)
 
     -- event e + 1 leaves process d the record p
     module _ (d : ℕ) (p : M .Process) (m : Among n d) (next : H (suc e) ≡ advance M (H e) d p) where
@@ -229,20 +209,20 @@ module _ (M : Machine) (n : ℕ) (W : (H : ℕ → State (M .Process)) → Works
     unfolding calledBy
     call-acts d j o q =
         let p = processAt M H (d - 1) e in
-        let ok = accepted d false (not (M .isIdle p), Busy) q in
+        let ok = admitted-call M (H e) d q in
         subst (λ k. Acts (call d j) (leaves d (M .called k j p) Called [])) (sym (A .count))
-        (go ok (open-call (d - 1)) refl (T (d - 1) (let a = ok .among in omega arith)))
+        (go ok (open-call (d - 1)) refl (T (d - 1) (let a = among ok in omega arith)))
       where
-        go : Accepted d (not (M .isIdle (processAt M H (d - 1) e)), Busy) → (b : Option Call) → open-call (d - 1) ≡ b →
+        go : Admitted M (H e) d false (not (M .isIdle (processAt M H (d - 1) e)), Busy) → (b : Option Call) → open-call (d - 1) ≡ b →
             tied H e (d - 1) b → Acts (call d j) (leaves d (M .called n j (processAt M H (d - 1) e)) Called [])
         go ok (some c) is t next =
             let p = processAt M H (d - 1) e in
             absurd (true≢false (sym (not-false (M .isIdle p) (ok .right)) ∙ W H .idle e (d - 1) p (some c) t))
         go ok none is t next =
             let p = M .called n j (processAt M H (d - 1) e) in
-            let m = ok .among in
+            let m = among ok in
             let w = W H .calls e (d - 1) j o (A .laws) t (event d p m next) in (
-              next-past d p m next (ok .room) (w .0),
+              next-past d p m next (not-full ok) (w .0),
               next-event d p m next,
               others-tied d p m next,
               call-deed d j m is (words-stay d p m next (w .1)) (own-tied d p m next (some (opens (suc e) j)) (w .2)),
@@ -259,19 +239,19 @@ module _ (M : Machine) (n : ℕ) (W : (H : ℕ → State (M .Process)) → Works
         let r = turnAt M n H (d - 1) e page in
         Acts (turn d) (leaves d (r .state) (r .answer) (r .page))
     turn-acts d page q =
-        let ok = accepted d (ltb (length page) (M .pageLength (H e .day .count))) (M .isIdle (processAt M H (d - 1) e), Idle) q in
-        go ok (open-call (d - 1)) refl (T (d - 1) (let a = ok .among in omega arith))
+        let ok = admitted-turn M (H e) d page q in
+        go ok (open-call (d - 1)) refl (T (d - 1) (let a = among ok in omega arith))
       where
         r : Result (M .Process)
         r = turnAt M n H (d - 1) e page
 
-        go : Accepted d (M .isIdle (processAt M H (d - 1) e), Idle) → (b : Option Call) → open-call (d - 1) ≡ b →
+        go : Admitted M (H e) d (ltb (length page) (M .pageLength (H e .day .count))) (M .isIdle (processAt M H (d - 1) e), Idle) → (b : Option Call) → open-call (d - 1) ≡ b →
             tied H e (d - 1) b → Acts (turn d) (leaves d (r .state) (r .answer) (r .page))
         go ok none is t next = absurd (true≢false (sym (W H .idle e (d - 1) (processAt M H (d - 1) e) none t) ∙ ok .right))
         go ok (some c) is t next =
-            let m = ok .among in
+            let m = among ok in
             let w = W H .turns e (d - 1) page c (A .laws) t (event d (r .state) m next) in (
-              next-past d (r .state) m next (ok .room) (w .0),
+              next-past d (r .state) m next (not-full ok) (w .0),
               next-event d (r .state) m next,
               others-tied d (r .state) m next,
               turn-deed d (r .state) m next c (r .page) is (w .1),

@@ -2,6 +2,7 @@
 pub mod Owed
 pub mod Fold
 pub mod Works
+pub mod Admitted
 pub mod Demand3
 pub mod Stepped
 pub mod Booleans

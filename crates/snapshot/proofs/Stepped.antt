@@ -22,9 +22,7 @@ use Rattle.snapshot.specs.Demand.{Among, admit, step}
 use Rattle.snapshot.specs.Days.{Machine, State, Item, openFor, updateCall, scanCall, turnOf, pageLent}
 use Rattle.snapshot.specs.Days.{processOf, openingCauses, causes, callCauses, turnCauses, refusal}
 use Rattle.snapshot.specs.Days.{advance, calledBy, readFrom, turnBy, accept, method, openedFor, stepped}
-use Rattle.snapshot.proofs.Booleans.{or-neither, not-false}
-use Rattle.snapshot.proofs.Causes.{accepted-passes}
-use Rattle.snapshot.proofs.Demand3.{outside-among}
+use Rattle.snapshot.proofs.Admitted.{admitted-call, admitted-turn, admitted-opening}
 
 module _ (M : Machine) (s : State (M .Process)) (x : Item) where
   -- the step that the code's contracts speak of is that of demand 3, for whatever number of processes demand 3 is asked
@@ -45,48 +43,6 @@ module _ (M : Machine) (s : State (M .Process)) (x : Item) where
   pub acceptance-does : refusal M s x ≡ none → stepped M s x ≡ accept M s x
   unfolding stepped step
   acceptance-does q = ap (λ o. admit (method M (s .day .count)) s x o) q
-
--- ---- what acceptance tells
-
-module _ (M : Machine) (s : State (M .Process)) where
-  -- of a call or a turn of process d
-  pub record Admitted (d : ℕ) (short : Bool) (wrong : Cause) : Type 0 where
-    pub opened : 0 < s .day .count
-    pub small : s .day .count ≤ 8
-    pub size : length (s .table) ≡ s .day .count
-    pub long : short ≡ false
-    pub among : Among (s .day .count) d
-    pub right : wrong .0 ≡ false
-
-  pub admitted : (d : ℕ) (short : Bool) (wrong : Cause) → firstCause (causes M s d short wrong) ≡ none → Admitted d short wrong
-  admitted d short wrong q =
-      let n = s .day .count in
-      let e = s .day .event in
-      let w = accepted-passes (causes M s d short wrong) q in
-      let is-open = eqb-false n 0 (w .0) in
-      let sizes = or-neither (not (eqb (length (s .table)) n)) short (w .1 .0) in
-      let arises = or-neither (ltb 8 n) (ltb 65535 e || someOf (M .unsound n e) (s .table)) (w .1 .1 .0) in
-      record {
-        opened = omega arith;
-        small = ltb-false 8 n (arises .0);
-        size = eqb-true (length (s .table)) n (not-false (eqb (length (s .table)) n) (sizes .0));
-        long = sizes .1;
-        among = outside-among n d (w .1 .1 .1 .0);
-        right = w .1 .1 .1 .1 .0;
-      }
-
-  pub admitted-call : (d : ℕ) → firstCause (callCauses M s d) ≡ none → Admitted d false (not (M .isIdle (processOf M s d)), Busy)
-  admitted-call d q = admitted d false (not (M .isIdle (processOf M s d)), Busy) q
-
-  pub admitted-turn : (d : ℕ) (page : List ℕ) → firstCause (turnCauses M s d page) ≡ none →
-      Admitted d (ltb (length page) (M .pageLength (s .day .count))) (M .isIdle (processOf M s d), Idle)
-  admitted-turn d page q =
-      admitted d (ltb (length page) (M .pageLength (s .day .count))) (M .isIdle (processOf M s d), Idle) q
-
-  -- an opening is accepted only on a day that is not open
-  pub admitted-opening : (k : ℕ) → firstCause (openingCauses M s k) ≡ none → s .day .count ≡ 0
-  admitted-opening k q =
-      eqb-true (s .day .count) 0 (not-false (eqb (s .day .count) 0) (accepted-passes (openingCauses M s k) q .0))
 
 -- ---- days grown from an opening
 
@@ -122,11 +78,11 @@ module _ (M : Machine) (n : ℕ) (z : 0 < n) (Kept : M .Process → Type 0)
   call-holds s d j q h =
       let a = admitted-call M s d q in
       let c = h .count in
-      let l = a .size in
-      let m = a .among in
+      let l = a .suited .size in
+      let m = a .suited .among in
       advance-holds s d (M .called (s .day .count) j (processOf M s d)) (omega arith) h
       (subst (λ k. Kept (M .called k j (processOf M s d))) (sym c)
-      (calls j (processOf M s d) (subst (λ k. k ≤ 8) c (a .small)) (h .kept (d - 1) (omega arith))))
+      (calls j (processOf M s d) (subst (λ k. k ≤ 8) c (a .suited .small)) (h .kept (d - 1) (omega arith))))
 
   turn-holds : (s : State (M .Process)) (d : ℕ) (page : List ℕ) → firstCause (turnCauses M s d page) ≡ none → Holding s →
       Holding (advance M s d (turnBy M s d page .state))
@@ -134,12 +90,12 @@ module _ (M : Machine) (n : ℕ) (z : 0 < n) (Kept : M .Process → Type 0)
   turn-holds s d page q h =
       let a = admitted-turn M s d page q in
       let c = h .count in
-      let l = a .size in
-      let m = a .among in
+      let l = a .suited .size in
+      let m = a .suited .among in
       let p = processOf M s d in
       advance-holds s d (turnBy M s d page .state) (omega arith) h
       (subst (λ k. Kept (M .turned k (d - 1) (s .day .event + 1) (readFrom M (s .table) (M .reads k p)) page p .state)) (sym c)
-      (turns (d - 1) (s .day .event + 1) (readFrom M (s .table) (M .reads n p)) page p (subst (λ k. k ≤ 8) c (a .small))
+      (turns (d - 1) (s .day .event + 1) (readFrom M (s .table) (M .reads n p)) page p (subst (λ k. k ≤ 8) c (a .suited .small))
       (a .right) (λ j q b. subst (λ k. Kept (readFrom M (s .table) k)) (sym q) (h .kept j b)) (h .kept (d - 1) (omega arith))))
 
   accept-holds : (s : State (M .Process)) (x : Item) → refusal M s x ≡ none → Holding s → Holding (accept M s x .state)

@@ -19,7 +19,8 @@ use Rattle.snapshot.specs.declared.Answer.{Answer}
 use Rattle.snapshot.specs.declared.Answer.the-variants.{Refused, Opened, Called, Read, Page, Written}
 use Rattle.snapshot.proofs.Lists.{take-over, getD-over, getD-map-below, take-replicate}
 use Rattle.snapshot.proofs.Owed.{actor}
-use Rattle.snapshot.proofs.Stepped.{admitted-call, admitted-turn, grown, grown-keeps}
+use Rattle.snapshot.proofs.Admitted.{admitted-call, admitted-turn}
+use Rattle.snapshot.proofs.Stepped.{grown, grown-keeps}
 use Rattle.unbounded.specs.declared.Register.{Register}
 use Rattle.unbounded.specs.declared.Process.{Process}
 use Rattle.unbounded.specs.declared.Task.{Task}
@@ -187,10 +188,10 @@ module _ (o : Order) (s : State Process) (d : ℕ) where
       let a = admitted-call (figure3 o) s d q in
       let n = s .day .count in
       let p = getD (s .table) (d - 1) noProcess in
-      let l = a .size in
-      let m = a .among in
+      let l = a .suited .size in
+      let m = a .suited .among in
       subst (NothingCollected n) (sym (left-is (begin n (taskOf j 0) p) (omega arith)))
-      (begin-nothing n (a .small) (taskOf j 0) p (job-keeps-none n (a .small) j) S)
+      (begin-nothing n (a .suited .small) (taskOf j 0) p (job-keeps-none n (a .suited .small) j) S)
 
   answer-empties : (page : List ℕ) → firstCause (turnCauses (figure3 o) s d page) ≡ none →
       Empties (turnBy (figure3 o) s d page .answer) → Sized (getD (s .table) (d - 1) noProcess) →
@@ -200,11 +201,11 @@ module _ (o : Order) (s : State Process) (d : ℕ) where
       let a = admitted-turn (figure3 o) s d page q in
       let n = s .day .count in
       let p = getD (s .table) (d - 1) noProcess in
-      let l = a .size in
-      let m = a .among in
+      let l = a .suited .size in
+      let m = a .suited .among in
       subst (NothingCollected n) (sym (left-is (turnBy (figure3 o) s d page .state) (omega arith)))
       (turned-nothing o n (s .day .event + 1) (readFrom (figure3 o) (s .table) (reads o n (p .task)) .register) page p
-      (a .small) S h)
+      (a .suited .small) S h)
 
 -- right after an accepted call, and right after an accepted turn that answers a page or a written entry, its process has nothing
 -- collected; its arrays have their eight places, as those of every lent record do

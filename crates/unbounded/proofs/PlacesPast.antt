@@ -20,7 +20,8 @@ use Rattle.snapshot.specs.Days as Days
 use Rattle.snapshot.specs.Days.{State, Item, openFor, updateCall, scanCall, turnOf, sees, pageLent, refusal}
 use Rattle.snapshot.specs.Days.{callCauses, turnCauses, advance, calledBy, readFrom, turnBy, accept}
 use Rattle.snapshot.proofs.Lists.{drop-over}
-use Rattle.snapshot.proofs.Stepped.{admitted-call, admitted-turn, admitted-opening, grown, grown-count}
+use Rattle.snapshot.proofs.Admitted.{admitted-call, admitted-turn, admitted-opening}
+use Rattle.snapshot.proofs.Stepped.{grown, grown-count}
 use Rattle.unbounded.specs.declared.Register.{Register}
 use Rattle.unbounded.specs.declared.Process.{Process}
 use Rattle.unbounded.specs.declared.Task.{Task}
@@ -204,10 +205,10 @@ module _ (o : Order) (s : State Process) (P : Permutes (s .day .count) o)
   unfolding calledBy
   call-past d j q =
       let a = admitted-call (figure3 o) s d q in
-      let l = a .size in
-      let m = a .among in
+      let l = a .suited .size in
+      let m = a .suited .among in
       advance-past d (begin n (taskOf j 0) (at (d - 1))) (omega arith)
-      (begin-past n (a .small) (at (d - 1)) (whole (d - 1) (omega arith)) (taskOf j 0))
+      (begin-past n (a .suited .small) (at (d - 1)) (whole (d - 1) (omega arith)) (taskOf j 0))
 
   turned-past : (i now : ℕ) (page : List ℕ) → i < n → 0 < n → n ≤ 8 →
       let r = turned o n now (readFrom (figure3 o) (s .table) (reads o n (at i .task)) .register) page (at i) in
@@ -245,9 +246,9 @@ module _ (o : Order) (s : State Process) (P : Permutes (s .day .count) o)
   unfolding turnBy
   turn-past d page q =
       let a = admitted-turn (figure3 o) s d page q in
-      let l = a .size in
-      let m = a .among in
-      let h = turned-past (d - 1) (s .day .event + 1) page (omega arith) (a .opened) (a .small) in
+      let l = a .suited .size in
+      let m = a .suited .among in
+      let h = turned-past (d - 1) (s .day .event + 1) page (omega arith) (a .suited .opened) (a .suited .small) in
       (advance-past d (turnBy (figure3 o) s d page .state) (omega arith) (h .0), h .1)
 
 -- every accepted item but an opening leaves all that is past n, in every record and in the page list

@@ -28,7 +28,7 @@ use Rattle.snapshot.proofs.Booleans.{not-false}
 use Rattle.snapshot.proofs.Causes.{accepted-passes}
 use Rattle.snapshot.proofs.Lists.{length-over, getD-over, getD-map-below}
 use Rattle.snapshot.proofs.DoubleCollect.{Ends, nobody, lender, goes-on, verdict-ends}
-use Rattle.snapshot.proofs.Demand3.{outside-among}
+use Rattle.snapshot.proofs.Admitted.{outside-among}
 use Rattle.unbounded.specs.declared.Register.{Register}
 use Rattle.unbounded.specs.declared.Process.{Process}
 use Rattle.unbounded.specs.declared.Task.{Task}

@@ -66,7 +66,7 @@ call-spec 𝓤 H 𝓜 𝓖 𝓡 =
     gets-also ! goes-by-is (callAccess day) ((tt, tt, refl), tt) (given 𝓤 (admits-day day (x .now) [] r item (asked .1))) Sound
     (λ z ws. two-said 𝓤) (λ sound _.
     lends-again ! refl refl refl (tt, tt) ▹
-    gets ! index-is i ((tt, tt, refl), tt) (given 𝓤 (known .among .0)) (λ z ws. id⊢ 𝓤 _) (λ _.
+    gets ! index-is i ((tt, tt, refl), tt) (given 𝓤 (known .suited .among .0)) (λ z ws. id⊢ 𝓤 _) (λ _.
     gets ! task-is (taskFor r) ((tt, tt, refl), tt) (asks-nothing 𝓤) (λ z ws. id⊢ 𝓤 _) (λ _.
     calls-lent ! a-process (x .ptr .0) (x .ptr .1) (x .now) us (are .1 .0 .0 .1) begins-is tt (tt, tt, refl) (λ α δ. (refl, tt))
     (λ α δ. given 𝓤 (admits-inside day (x .now) [] r item (asked .1), sound)) (λ α δ z ws. unit-said 𝓤) (λ _ l.

@@ -72,7 +72,7 @@ turn-on-spec 𝓤 H 𝓜 𝓖 𝓡 =
     (refusalIn (stateOf day (x .now)) (itemOf (y .now) r) ≡ none)) (id⊢ 𝓤 _) (λ asked.
     let known = admits day (x .now) (y .now) r (asked .0) (asked .2) in
     let t = turn-at day (x .now) (y .now) r (asked .0) (asked .1) (asked .2) in
-    gets ! index-is i ((tt, tt, refl), tt) (given 𝓤 (known .among .0)) (λ z ws. id⊢ 𝓤 _) (λ _.
+    gets ! index-is i ((tt, tt, refl), tt) (given 𝓤 (known .suited .among .0)) (λ z ws. id⊢ 𝓤 _) (λ _.
     lends-again ! refl refl refl (tt, tt) ▹
     calls-shared-is ! a-process (x .ptr .0) (x .ptr .1) (x .now) room task-is k (tt, tt, refl) (λ α δ. (refl, tt))
     (λ α δ. given 𝓤 (t .inside)) (λ α δ z ws. id⊢ 𝓤 _) (λ _.
