@@ -5,17 +5,15 @@ use native.Mathlib.Omega.{arith}
 use native.Mathlib.Decide.{decLt, ℕ-discrete}
 use mathlib.Core.Path.{_≡_, refl, sym, ap, _∙_}
 use mathlib.Core.Logic.{by-cases}
-use mathlib.Core.Bool.{Bool, false, not, _||_}
+use mathlib.Core.Bool.{Bool, false, not}
 use mathlib.Core.List.{List, _++_}
 use mathlib.Core.Option.{Option, none, some}
 use lib.ListN.{length}
-use lib.Dec.{T, eqb, ltb}
-use borrow.Author.Tests.{eqb-true, eqb-false, ltb-false, eq-eqb, lt-ltb}
-use Rattle.snapshot.specs.Lists.{someOf}
+use lib.Dec.{T, ltb}
+use borrow.Author.Tests.{ltb-false, eq-eqb, lt-ltb}
 use Rattle.snapshot.specs.Refusals.{Cause, firstCause}
 use Rattle.snapshot.specs.Requests.{numberIn}
-use Rattle.snapshot.specs.Demand.{Among}
-use Rattle.snapshot.specs.Days.{Machine, State, openFor, isFull, processOf, causes, refusal}
+use Rattle.snapshot.specs.Days.{Machine, State, openFor, processOf, causes, refusal}
 use Rattle.snapshot.specs.declared.Refusal.{Refusal}
 use Rattle.snapshot.specs.declared.Refusal.the-variants.{Idle}
 use Rattle.snapshot.specs.declared.Request.{Request}

@@ -1,6 +1,4 @@
 -- The plain data of its own that the runner's walks carry, and the fields of a run and of its progress.
-use mathlib.Core.List.{[], _∷_}
-use denote.Laws.{Is}
 use Rattle.laps.specs.declared.records.Progress.{Progress}
 use Rattle.laps.specs.declared.records.Running.{Running}
 use Rattle.laps.proofs.records.Progress as P
@@ -10,9 +8,8 @@ use Rattle.laps.proofs.records.Running.Laws as R′
 use mathlib.Core.Path.{refl}
 use Rattle.walks.proofs.Data.{Datum, Fine, spelled}
 use Rattle.walks.proofs.Declared.{a-struct}
-use Rattle.walks.proofs.Contracts.{three-given}
 use Rattle.memory.proofs.Types.{a-day}
-use Rattle.days.proofs.LocalTable.{Table, a-table, table-as}
+use Rattle.days.proofs.LocalTable.{a-table, table-as}
 
 abbrev pub a-progress : Datum
 a-progress = a-struct P.the-type P′.lowers P′.the-plain P′.the-laws P′.the-copy refl

@@ -12,7 +12,7 @@ use mathlib.Core.Option.{Option, none, some, Option·some-ne-none, Option·some-
 use lib.ListN.{length, getD, set, take, replicate, length-set, length-map, length-replicate, getD-replicate, List·getD-map}
 use lib.Seq.{getD-set-same, getD-set-other, map-set-same}
 use lib.Dec.{eqb, ltb}
-use borrow.Author.Tests.{eqb-true, eqb-false, ltb-false, ne-eqb, le-ltb}
+use borrow.Author.Tests.{eqb-true, ne-eqb, le-ltb}
 use Rattle.snapshot.specs.declared.Refusal.{Refusal}
 use Rattle.snapshot.specs.declared.Refusal.the-variants.{CountRange, ProcessRange, Busy, Idle, DayFull, LentSize}
 use Rattle.snapshot.specs.declared.Refusal.the-variants.{OpenState, CannotArise}
@@ -23,7 +23,7 @@ use Rattle.snapshot.specs.Refusals.{numberOf, Cause, firstCause}
 use Rattle.snapshot.specs.Tally.{Job, scan, update, Seen, call, turn, Call, started, opens, gains}
 use Rattle.snapshot.specs.Demand.{Result, Among, RefusalFits, Holds, admit, step}
 use Rattle.snapshot.specs.Days.{Machine, State, Item, openFor, updateCall, scanCall, turnOf, sees}
-use Rattle.snapshot.specs.Days.{outside, isFull, cannotArise, processOf, openingCauses, causes, callCauses, turnCauses}
+use Rattle.snapshot.specs.Days.{outside, cannotArise, processOf, openingCauses, causes, callCauses, turnCauses}
 use Rattle.snapshot.specs.Days.{refusal}
 use Rattle.snapshot.specs.Days.{openedBy, advance, calledBy, readFrom, turnBy, accept, method, openedFor}
 use Rattle.snapshot.proofs.Booleans.{not-false}

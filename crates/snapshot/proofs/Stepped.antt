@@ -5,22 +5,18 @@ use native.Mathlib.Omega.{arith}
 use native.Mathlib.Decide.{ℕ-discrete}
 use mathlib.Core.Path.{_≡_, refl, sym, ap, _∙_, subst}
 use mathlib.Core.Logic.{by-cases}
-use mathlib.Core.Bool.{Bool, false, not, _||_}
+use mathlib.Core.Bool.{false}
 use mathlib.Core.List.{List, [], _∷_}
 use mathlib.Core.Option.{Option, none, some}
 use lib.ListN.{length, getD, getD-replicate}
 use lib.Seq.{getD-set-same, getD-set-other}
-use lib.Dec.{eqb, ltb}
-use borrow.Author.Tests.{eqb-true, eqb-false, ltb-false}
 use Rattle.snapshot.specs.declared.Refusal.{Refusal}
-use Rattle.snapshot.specs.declared.Refusal.the-variants.{Busy, Idle}
 use Rattle.snapshot.specs.declared.Answer.the-variants.{Refused}
-use Rattle.snapshot.specs.Lists.{someOf}
-use Rattle.snapshot.specs.Refusals.{Cause, firstCause}
+use Rattle.snapshot.specs.Refusals.{firstCause}
 use Rattle.snapshot.specs.Tally.{Job, scan, update}
-use Rattle.snapshot.specs.Demand.{Among, admit, step}
+use Rattle.snapshot.specs.Demand.{admit, step}
 use Rattle.snapshot.specs.Days.{Machine, State, Item, openFor, updateCall, scanCall, turnOf, pageLent}
-use Rattle.snapshot.specs.Days.{processOf, openingCauses, causes, callCauses, turnCauses, refusal}
+use Rattle.snapshot.specs.Days.{processOf, callCauses, turnCauses, refusal}
 use Rattle.snapshot.specs.Days.{advance, calledBy, readFrom, turnBy, accept, method, openedFor, stepped}
 use Rattle.snapshot.proofs.Admitted.{admitted-call, admitted-turn, admitted-opening}
 

@@ -5,7 +5,7 @@ use native.Mathlib.Omega.{arith}
 use native.Mathlib.Decide.{ℕ-discrete}
 use mathlib.Core.Path.{_≡_, refl, sym, ap, _∙_, subst}
 use mathlib.Core.Logic.{by-cases, _≢_}
-use mathlib.Core.Bool.{Bool, true, false, cond, not, true≢false}
+use mathlib.Core.Bool.{Bool, true, false, cond, true≢false}
 use mathlib.Core.List.{List, [], _∷_, map}
 use mathlib.Core.Option.{Option, none, some, Option·none-ne-some, Option·some-injective}
 use lib.ListN.{length, getD, set, take, replicate, length-map, length-set, length-replicate, getD-replicate}
@@ -15,20 +15,19 @@ use borrow.Author.Tests.{eqb-true, eqb-false}
 use Rattle.snapshot.specs.Lists.{over, each, everyFrom}
 use Rattle.snapshot.specs.Tally.{Job, scan, update}
 use Rattle.snapshot.specs.Marks.{lends, Found}
-use Rattle.snapshot.specs.Demand.{Result, Among, admit, step}
+use Rattle.snapshot.specs.Demand.{Result, Among}
 use Rattle.snapshot.specs.Days as Days
 use Rattle.snapshot.specs.Days.{Machine, State, Item, openFor, updateCall, scanCall, turnOf, pageLent, processOf, refusal, accept}
-use Rattle.snapshot.specs.Days.{advance, calledBy, turnBy, readFrom, stepped, causes, callCauses, turnCauses, openingCauses}
-use Rattle.snapshot.specs.Refusals.{Cause, firstCause}
+use Rattle.snapshot.specs.Days.{advance, calledBy, turnBy, readFrom, stepped, callCauses, turnCauses, openingCauses}
+use Rattle.snapshot.specs.Refusals.{firstCause}
 use Rattle.snapshot.specs.declared.Refusal.{Refusal}
-use Rattle.snapshot.specs.declared.Refusal.the-variants as Refusals
 use Rattle.snapshot.specs.declared.Answer.the-variants.{Written}
 use Rattle.snapshot.specs.Verdict.{Verdict, verdict}
 use Rattle.snapshot.proofs.Booleans.{not-false}
-use Rattle.snapshot.proofs.Causes.{accepted-passes}
 use Rattle.snapshot.proofs.Lists.{length-over, getD-over, getD-map-below}
 use Rattle.snapshot.proofs.DoubleCollect.{Ends, nobody, lender, goes-on, verdict-ends}
-use Rattle.snapshot.proofs.Admitted.{outside-among}
+use Rattle.snapshot.proofs.Stepped.{refusal-changes-nothing, acceptance-does}
+use Rattle.snapshot.proofs.Admitted.{admitted-call, admitted-turn, admitted-opening}
 use Rattle.unbounded.specs.declared.Register.{Register}
 use Rattle.unbounded.specs.declared.Process.{Process}
 use Rattle.unbounded.specs.declared.Task.{Task}
@@ -368,34 +367,16 @@ module _ (n : ℕ) (z : 0 < n) (eight : n ≤ 8) (o : Order) (P : Permutes n o) 
   -- ---- one item
 
   module _ (s : State Process) (L : Lent s) where
-    -- what acceptance tells of a call or a turn of process c
-    accepted : (c : ℕ) (short : Bool) (wrong : Cause) → firstCause (causes M s c short wrong) ≡ none →
-        Among n c × (wrong .0 ≡ false)
-    accepted c short wrong q =
-        let w = accepted-passes (causes M s c short wrong) q in
-        (subst (λ k. Among k c) (L .count) (outside-among (s .day .count) c (w .1 .1 .1 .0)), w .1 .1 .1 .1 .0)
-
     call-idle : (c : ℕ) → firstCause (callCauses M s c) ≡ none → Among n c × (isIdle (owner s c .task) ≡ true)
     call-idle c q =
-        let w = accepted c false (not (isIdle (owner s c .task)), Refusals.Busy) q in
-        (w .0, not-false (isIdle (owner s c .task)) (w .1))
+        let a = admitted-call M s c q in
+        (subst (λ k. Among k c) (L .count) (a .suited .among), not-false (isIdle (owner s c .task)) (a .right))
 
     turn-busy : (c : ℕ) (page : List ℕ) → firstCause (turnCauses M s c page) ≡ none → Among n c
-    turn-busy c page q = accepted c (ltb (length page) (s .day .count)) (isIdle (owner s c .task), Refusals.Idle) q .0
+    turn-busy c page q = subst (λ k. Among k c) (L .count) (admitted-turn M s c page q .suited .among)
 
     never-opens : (k : ℕ) → firstCause (openingCauses M s k) ≡ none → ⊥
-    never-opens k q =
-        let w = accepted-passes (openingCauses M s k) q in
-        let e = eqb-true (s .day .count) 0 (not-false (eqb (s .day .count) 0) (w .0)) in
-        omega (arith, L .count)
-
-    step-refused : (x : Item) (k : Refusal) → refusal M s x ≡ some k → stepped M s x .state ≡ s
-    unfolding stepped step
-    step-refused x k q = ap (λ f. admit (Days.method M (s .day .count)) s x f .state) q
-
-    step-accepted : (x : Item) → refusal M s x ≡ none → stepped M s x ≡ accept M s x
-    unfolding stepped step
-    step-accepted x q = ap (admit (Days.method M (s .day .count)) s x) q
+    never-opens k q = omega (arith, L .count, admitted-opening M s k q)
 
     -- process c's record after a call
     called-by : (c : ℕ) (j : Job) → calledBy M s c j ≡ advance M s c (begin n (taskOf j 0) (owner s c))
@@ -447,8 +428,8 @@ module _ (n : ℕ) (z : 0 < n) (eight : n ≤ 8) (o : Order) (P : Permutes n o) 
     moves x = go (refusal M s x) refl
       where
         go : (f : Option Refusal) → refusal M s x ≡ f → Moves x f (stepped M s x .state)
-        go none q = subst (λ r. Moves x none (r .state)) (sym (step-accepted x q)) (moves-accepted x q)
-        go (some k) q = subst (λ u. Moves x (some k) u) (sym (step-refused x k q)) (refused k)
+        go none q = subst (λ r. Moves x none (r .state)) (sym (acceptance-does M s x q)) (moves-accepted x q)
+        go (some k) q = subst (λ u. Moves x (some k) u) (sym (ap (λ r. r .state) (refusal-changes-nothing M s x k q))) (refused k)
 
     lent-moved : {x : Item} {f : Option Refusal} {u : State Process} → Moves x f u → Lent u
     lent-moved (refused k) = L
@@ -478,7 +459,7 @@ module _ (n : ℕ) (z : 0 < n) (eight : n ≤ 8) (o : Order) (P : Permutes n o) 
     unfolding accept
     own-turn d page m q =
         let r = turnNow d page in
-        ap (ownOf o d) (step-accepted (turnOf d page) q)
+        ap (ownOf o d) (acceptance-does M s (turnOf d page) q)
         ∙ ap (λ r. ownOf o d (record { state = advance M s d (r .state); answer = r .answer; page = r .page })) (turn-by d page)
         ∙ ap (λ p. record { state = p; answer = r .answer; page = r .page }) (own-advanced s L d (r .state) m)
 
@@ -570,7 +551,7 @@ module _ (n : ℕ) (z : 0 < n) (eight : n ≤ 8) (o : Order) (P : Permutes n o) 
         accept M s x .state ≡ calledBy M s d j →
         owner (stepped M s x .state) d ≡ begin n (taskOf j 0) (owner s d)
     after-call x j a m q =
-        ap (λ r. owner (r .state) d) (step-accepted s L x a)
+        ap (λ r. owner (r .state) d) (acceptance-does M s x a)
         ∙ ap (λ u. owner u d) (q ∙ called-by s L d j)
         ∙ own-advanced s L d (begin n (taskOf j 0) (owner s d)) m
 

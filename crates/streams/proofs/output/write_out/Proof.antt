@@ -1,5 +1,5 @@
 -- `streams::output::write_out` meets its contract: each write takes the first of what is left, or nothing, or fails.
-use Prim.Native.Nat.{_-_, _≤_}
+use Prim.Native.Nat.{_≤_}
 use native.Mathlib.Omega.{arith}
 use mathlib.Core.Path.{refl, sym, subst}
 use mathlib.Core.Logic.{⊎-elim}
