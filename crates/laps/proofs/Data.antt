@@ -1,15 +1,26 @@
--- The plain data of its own that the runner's walks carry, and the fields of a run and of its progress.
-use Rattle.laps.specs.declared.records.Progress.{Progress}
-use Rattle.laps.specs.declared.records.Running.{Running}
+-- The plain data of its own that the runner's walk carries, and the fields of a run and of its progress.
+use mathlib.Core.Path.{refl, sym, _∙_}
+use mathlib.Core.List.{List, [], _∷_, map}
+use lib.ListN.{length-map}
+use mir.Val.{Val}
+use denote.RattleType.{RattleType}
+use denote.Laws.{Is}
+use denote.Shadow.{shadow}
+use denote.Array.{each}
+use denote.Struct.Field.{array-field}
+use Rattle.unbounded.specs.declared.Process.{Process}
+use Rattle.unbounded.proofs.Process as X
 use Rattle.laps.proofs.records.Progress as P
 use Rattle.laps.proofs.records.Progress.Laws as P′
 use Rattle.laps.proofs.records.Running as R
 use Rattle.laps.proofs.records.Running.Laws as R′
-use mathlib.Core.Path.{refl}
-use Rattle.walks.proofs.Data.{Datum, Fine, spelled}
+use Rattle.walks.proofs.Data.{spelled}
 use Rattle.walks.proofs.Declared.{a-struct}
-use Rattle.memory.proofs.Types.{a-day}
-use Rattle.days.proofs.LocalTable.{a-table, table-as}
+use Rattle.walks.proofs.Walking.{Datum, Has, an-array}
+use Rattle.memory.proofs.Types.{a-process, a-day}
+
+abbrev pub a-table : Datum
+a-table = an-array a-process 8
 
 abbrev pub a-progress : Datum
 a-progress = a-struct P.the-type P′.lowers P′.the-plain P′.the-laws P′.the-copy refl
@@ -17,13 +28,49 @@ a-progress = a-struct P.the-type P′.lowers P′.the-plain P′.the-laws P′.t
 abbrev pub a-running : Datum
 a-running = a-struct R.the-type R′.lowers R′.the-plain R′.the-laws R′.the-copy refl
 
--- the fields of a run and of its progress
-pub day-of : (p : Progress) → Fine a-progress p → Fine a-day (p .day)
-day-of p is = spelled a-day (p .day) _ (is .1 .1 .0)
+-- a table is a field of a struct by its records' own fields
+abbrev Fields : RattleType
+Fields = array-field X.the-field 8 .row
 
-module _ (r : Running) (is : Fine a-running r) where
-  pub progress-of : Fine a-progress (r .progress)
-  progress-of = spelled a-progress (r .progress) _ (is .1 .1 .0)
+each-as : (xs : List Process) (us : List Val) → shadow (each (X.the-field .row .Denot) (X.the-field .row .own)
+    (map (X.the-field .into) xs) us) → shadow (each Process (X.the-row .own) xs us)
+each-as [] [] s = tt
+each-as [] (u ∷ us) s = absurd s
+each-as (x ∷ xs) [] s = absurd s
+each-as (x ∷ xs) (u ∷ us) s = (s .0, each-as xs us (s .1))
 
-  pub table-of : Fine a-table (r .table)
-  table-of = spelled a-table (r .table) _ (table-as (r .table) _ (is .1 .1 .1 .0))
+pub table-as : (xs : List Process) (vs : List Val) → Is Fields (map (X.the-field .into) xs) vs → Is (a-table .base) xs vs
+table-as xs vs p = (p .0, ((p .1 .0 .0, sym (length-map xs (X.the-field .into)) ∙ p .1 .0 .1), each-as xs (p .0) (p .1 .1)))
+
+abbrev pub its-day : Has a-progress a-day 0
+its-day =
+    record {
+      get = λ p. p .day;
+      shape = refl;
+      found = refl;
+      spells = λ p. refl;
+      got = λ p. refl;
+      fine-get = λ p is. spelled a-day (p .day) _ (is .1 .1 .0);
+    }
+
+abbrev pub its-progress : Has a-running a-progress 0
+its-progress =
+    record {
+      get = λ r. r .progress;
+      shape = refl;
+      found = refl;
+      spells = λ r. refl;
+      got = λ r. refl;
+      fine-get = λ r is. spelled a-progress (r .progress) _ (is .1 .1 .0);
+    }
+
+abbrev pub its-table : Has a-running a-table 1
+its-table =
+    record {
+      get = λ r. r .table;
+      shape = refl;
+      found = refl;
+      spells = λ r. refl;
+      got = λ r. refl;
+      fine-get = λ r is. spelled a-table (r .table) _ (table-as (r .table) _ (is .1 .1 .1 .0));
+    }

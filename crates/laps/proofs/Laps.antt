@@ -1,5 +1,6 @@
--- The laps of a run, one at a time: while there is another, a run goes on with what it comes to (`ran-on`), and where there is none,
--- it stays as it is (`ran-over`). What a lap of the code comes to is a lap of the definitions (`lap-done`), and leaves fewer to make.
+-- The laps of a run, one at a time: while there is another, a run goes on with what it comes to (`ran-on`), and where there is
+-- none, it stays as it is (`ran-over`). What a lap of the code comes to is a lap of the definitions (`lap-done`), and leaves
+-- fewer to make.
 use Prim.Native.Nat.{ℕ, zero, suc, _+_, _-_, _/_, _≤_, _<_}
 use native.Mathlib.Omega.{arith}
 use native.Mathlib.Nat.{not-suc-le-zero, le-refl}
@@ -233,46 +234,73 @@ module _ (p : Progress) (size room words : ℕ) (ready : CanLay p size room word
       go true h = and-false (leb (p .written + longest) room)
       go false h = rw (h refl)
 
--- what asking y of the n records that are lent comes to, as `asked` ensures it
-abbrev pub Asked : Progress → List Process → List ℕ → Reading → ℕ → Outcome → List Process → List ℕ → Type 0
-Asked p xs page y n o us page′ =
-    let lent = take n xs in let d = p .day in
-    (o ≡ askedOutcome d lent page y) × (us ≡ askedTable d lent page y) × (page′ ≡ askedPage d lent page y)
+-- what the code has at the start of a turn, and where it then stands
+pub record Turn : Type 0 where
+  pub progress : Progress
+  pub table : List Process
+  pub page : List ℕ
+  pub out : List ℕ
 
--- the progress and the output once the line of y is laid, as `past` ensures them
-module _ (p : Progress) (out : List ℕ) (y : Reading) (o : Outcome) (page : List ℕ) where
+abbrev pub standIn : Turn → List ℕ → Stand
+standIn t bytes = standAt (t .progress) (t .table) (t .page) bytes (t .out)
+
+abbrev pub Ready : Turn → List ℕ → Type 0
+Ready t bytes = CanLay (t .progress) (length bytes) (length (t .out)) (length (t .page))
+
+abbrev pub goesIn : Turn → Bool
+goesIn t = canGo (t .progress) (length (t .out))
+
+-- what a turn comes to once y is read: how many records are lent, what asking comes to, and the next turn
+module _ (t : Turn) (y : Reading) where
+  abbrev pub lapLent : ℕ
+  lapLent = lentTo (t .progress .day) (requestOf y)
+
+  abbrev pub lapOutcome : Outcome
+  lapOutcome = askedOutcome (t .progress .day) (take lapLent (t .table)) (t .page) y
+
+  abbrev pub lapRecords : List Process
+  lapRecords = askedTable (t .progress .day) (take lapLent (t .table)) (t .page) y
+
+  abbrev lapPage : List ℕ
+  lapPage = askedPage (t .progress .day) (take lapLent (t .table)) (t .page) y
+
+  abbrev words : List ℕ
+  words = take (lapOutcome .day .count) lapPage
+
   abbrev line-end : ℕ
-  line-end = laidPlace (lineOf o y) (take (o .day .count) page) out (p .written)
+  line-end = laidPlace (lineOf lapOutcome y) words (t .out) (t .progress .written)
 
-  abbrev pub progress-past : Progress
-  progress-past = progressPast p (o .day) line-end y
+  abbrev pub nextTurn : Turn
+  nextTurn =
+      record {
+        progress = progressPast (t .progress) (lapOutcome .day) line-end y;
+        table = lapRecords ++ drop lapLent (t .table);
+        page = lapPage;
+        out = laidText (lineOf lapOutcome y) words (t .out) (t .progress .written);
+      }
 
-  abbrev pub out-past : List ℕ
-  out-past = laidText (lineOf o y) (take (o .day .count) page) out (p .written)
-
-  abbrev pub Past : Progress → List ℕ → Type 0
-  Past p′ out′ = (p′ ≡ progress-past) × (out′ ≡ out-past)
-
-  module _ (size room words : ℕ) (ready : CanLay p size room words) (go : canGo p room ≡ true) (takes : Takes y (p .input)) where
-    unended : p .ended ≡ false
+  module _ {size room few : ℕ} (ready : CanLay (t .progress) size room few) (go : canGo (t .progress) room ≡ true)
+      (takes : Takes y (t .progress .input)) where
+    unended : t .progress .ended ≡ false
     unended =
-        going-unended (p .ended) (p .input .last) (p .input .end - p .input .at) (sym (can-go-is p size room words ready) ∙ go)
+        let i = t .progress .input in
+        going-unended (t .progress .ended) (i .last) (i .end - i .at) (sym (can-go-is (t .progress) size room few ready) ∙ go)
 
-    pub past-fewer : (p′ : Progress) → p′ ≡ progress-past → linesLeft p′ < linesLeft p
-    past-fewer p′ e = subst (λ z. linesLeft z < linesLeft p) (sym e) (lines-fewer p unended (o .day) line-end y takes)
+    pub lap-fewer : linesLeft (nextTurn .progress) < linesLeft (t .progress)
+    lap-fewer = lines-fewer (t .progress) unended (lapOutcome .day) line-end y takes
 
     -- the input is within its buffer, and there is room for the lines that are left
-    pub past-ready : (p′ : Progress) → p′ ≡ progress-past → CanLay p′ size room words
-    past-ready p′ e =
-        subst (λ z. CanLay z size room words) (sym e)
-        (let fewer = lines-fewer p unended (o .day) line-end y takes in
-        let near = past-written p (o .day) line-end (line-near (lineOf o y) (take (o .day .count) page) out (p .written)) y in
+    pub lap-ready : CanLay (nextTurn .progress) size room few
+    lap-ready =
+        let fewer = lap-fewer in
+        let near = past-written (t .progress) (lapOutcome .day) line-end
+        (line-near (lineOf lapOutcome y) words (t .out) (t .progress .written)) y in
         let before = ready .room-left in
         record {
-          within = past-within p (o .day) line-end size y takes (ready .within);
+          within = past-within (t .progress) (lapOutcome .day) line-end size y takes (ready .within);
           room-left = omega (arith, fewer, near, before);
           few = ready .few;
-        })
+        }
 
 -- a lap of the code is a lap of the definitions
 module _ (p : Progress) (xs : List Process) (page bytes out : List ℕ)
@@ -340,30 +368,21 @@ module _ (p : Progress) (xs : List Process) (page bytes out : List ℕ)
   lap-on End = closed-on End true
   lap-on (Refused k) = closed-on (Refused k) false
 
-  -- the laps from here on are those from where a lap of the code comes to
-  pub lap-done : (y : Reading) → y ≡ nextIn (p .input) bytes → (n : ℕ) → n ≡ lentTo (p .day) (requestOf y)
-      → (a : Outcome) (us : List Process) (page′ : List ℕ) → Asked p xs page y n a us page′
-      → (p′ : Progress) (out′ : List ℕ) → Past p out y a page′ p′ out′ → ran s ≡ ran (standAt p′ (us ++ drop n xs) page′ bytes out′)
+  lap-here : (y : Reading) → y ≡ nextIn (p .input) bytes →
+      ran s ≡ ran (standIn (nextTurn (record { progress = p; table = xs; page = page; out = out }) y) bytes)
   unfolding lap nextIn
-  lap-done y read n lent a us page′ asked p′ out′ past =
-      let d = p .day in
-      let to : ℕ → Outcome → List Process → List ℕ → Stand
-      = λ n a us page′. standAt (progress-past p out y a page′) (us ++ drop n xs) page′ bytes (out-past p out y a page′) in
-      let ys = take n xs in
-      -- each equation puts what was given in the place of what it is
-      ran-on s goes-too ∙ ap ran (
-      sym (ap (lapOn s) read) ∙ sym (lap-on y)
-      ∙ sym (ap (λ n. let ys = take n xs in to n (askedOutcome d ys page y) (askedTable d ys page y) (askedPage d ys page y)) lent)
-      ∙ sym (ap (to n (askedOutcome d ys page y) (askedTable d ys page y)) (asked .2))
-      ∙ sym (ap (λ us. to n (askedOutcome d ys page y) us page′) (asked .1)) ∙ sym (ap (λ a. to n a us page′) (asked .0))
-      ∙ sym (ap (λ q. standAt q (us ++ drop n xs) page′ bytes (out-past p out y a page′)) (past .0))
-      ∙ sym (ap (standAt p′ (us ++ drop n xs) page′ bytes) (past .1))
-      )
+  lap-here y read = ran-on s goes-too ∙ ap ran (sym (ap (lapOn s) read) ∙ sym (lap-on y))
 
--- where the code makes no lap there is none
-pub no-lap : (p : Progress) (xs : List Process) (page bytes out : List ℕ) → CanLay p (length bytes) (length out) (length page) →
-    canGo p (length out) ≡ false → ran (standAt p xs page bytes out) ≡ standAt p xs page bytes out
-no-lap p xs page bytes out ready stop =
-    ran-over (standAt p xs page bytes out)
-    (ap (goesOn (p .ended) (p .input .last)) (left-long (p .input) bytes (ready .within))
-    ∙ sym (can-go-is p (length bytes) (length out) (length page) ready) ∙ stop)
+module _ (t : Turn) (bytes : List ℕ) (ready : Ready t bytes) where
+  -- the laps from here on are those from the next turn on
+  pub lap-done : goesIn t ≡ true → (y : Reading) → y ≡ nextIn (t .progress .input) bytes →
+      ran (standIn t bytes) ≡ ran (standIn (nextTurn t y) bytes)
+  lap-done = lap-here (t .progress) (t .table) (t .page) bytes (t .out) ready
+
+  -- where the code makes no lap there is none
+  pub no-lap : goesIn t ≡ false → ran (standIn t bytes) ≡ standIn t bytes
+  no-lap stop =
+      let p = t .progress in
+      ran-over (standIn t bytes)
+      (ap (goesOn (p .ended) (p .input .last)) (left-long (p .input) bytes (ready .within))
+      ∙ sym (can-go-is p (length bytes) (length (t .out)) (length (t .page)) ready) ∙ stop)

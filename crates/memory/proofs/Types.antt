@@ -68,14 +68,17 @@ a-request = an-enum Q.the-type Q′.lowers Q′.the-plain Q′.the-laws Q′.the
 abbrev pub register-field : Field a-process a-register 0
 register-field =
     record {
-      get = λ p. p .register;
+      has =
+          record {
+            get = λ p. p .register;
+            shape = refl;
+            found = refl;
+            spells = λ p. refl;
+            got = λ p. refl;
+            fine-get = λ p is. spelled a-register (p .register) _ (is .1 .1 .0);
+          };
       with = withRegister;
-      shape = refl;
-      found = refl;
-      spells = λ p. refl;
-      got = λ p. refl;
       set = λ r p. refl;
-      fine-get = λ p is. spelled a-register (p .register) _ (is .1 .1 .0);
       fine-with = λ r p r-is is.
           spelled a-process (withRegister r p) _ ((a-register .spell r ∷ [], is .0 .1), (refl, (r-is, is .1 .1 .1)));
     }
@@ -83,14 +86,17 @@ register-field =
 abbrev pub task-field : Field a-process a-task 1
 task-field =
     record {
-      get = λ p. p .task;
+      has =
+          record {
+            get = λ p. p .task;
+            shape = refl;
+            found = refl;
+            spells = λ p. refl;
+            got = λ p. refl;
+            fine-get = λ p is. spelled a-task (p .task) _ (is .1 .1 .1 .0);
+          };
       with = withTask;
-      shape = refl;
-      found = refl;
-      spells = λ p. refl;
-      got = λ p. refl;
       set = λ k p. refl;
-      fine-get = λ p is. spelled a-task (p .task) _ (is .1 .1 .1 .0);
       fine-with = λ k p k-is is.
           spelled a-process (withTask k p) _
           ((is .0 .0, (a-task .spell k ∷ [], is .0 .1 .1)), (refl, (is .1 .1 .0, (k-is, is .1 .1 .1 .1))));

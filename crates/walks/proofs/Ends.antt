@@ -1,5 +1,5 @@
 -- How a walk begins and ends, by what the function is lent: a slice shared or to be changed, two slices to be changed, or one
--- record.
+-- shared and two to be changed.
 use mathlib.Core.Path.{_≡_, refl, sym, ap, subst, _∙_}
 use Prim.Native.Nat.{ℕ}
 use mathlib.Core.List.{List, [], _∷_}
@@ -34,7 +34,7 @@ use Rattle.walks.proofs.Frames.{frame, local-reads, local-frees}
 use Rattle.walks.proofs.Params.{Cell, holds, spellOf, spelt, Param, slots, kept, stays, refs-left, leaves}
 use Rattle.walks.proofs.Thin.{Here, ended, bound, Ended-at}
 use Rattle.walks.proofs.Statements.{cellAt, spelt-at, inside, is-inside, with-asked}
-use Rattle.walks.proofs.Rules.{at-place, token-in, token-out, tokens-in, tokens-out}
+use Rattle.walks.proofs.Rules.{at-place, token-in, token-out, tokens-in, tokens-out, three-tokens-in, three-tokens-out}
 use Rattle.walks.proofs.Calls.{shared-own}
 
 -- ---- what is owned while a slice is open
@@ -46,6 +46,15 @@ module _ {M : Type 1} {𝓤 : URA M} where
       ‵ (fobor κ p (Held (type-of X) (length ys) b o γ)) ⊛ (‵
       (fobs γ (codedHoleys (type-of X) .code (heres (type-of X) ys))) ⊛ ‵
       (fauth γ (codedHoleys (type-of X) .code (heres (type-of X) ys))))
+
+  -- what is owned of a `&[S]`, and of two `&mut` slices that are open and have us and us′ in them
+  abbrev pub three-open : (S X Y : Datum) → Lfts 3 → Shares 3 → RefT (List (Of S)) → RefT (List (Of X)) → RefT (List (Of Y)) →
+      List (Of X) → List (Of Y) → List (Item 𝓤)
+  three-open S X Y κs ts s x y us us′ =
+      ‵ (flft (κs .0) (ts .0)) ∷ ‵ (shared-own (type-of S) (κs .0) (s .ptr .0) (s .ptr .1) (s .name) (s .now))
+      ∷ ‵ (row (type-of X) fullShare us (x .ptr .0) (x .ptr .1)) ∷ ‵ (row (type-of Y) fullShare us′ (y .ptr .0) (y .ptr .1))
+      ∷ closer X (κs .1 .0) (ts .1 .0) (x .ptr .0) (x .ptr .1) (x .name) (x .now)
+      ∷ closer Y (κs .1 .1 .0) (ts .1 .1 .0) (y .ptr .0) (y .ptr .1) (y .name) (y .now) ∷ []
 
 module _ {M : Type 1} {𝓤 : URA M} {H : Heap 𝓤} {A : Atoms 𝓤} {K : Type 0} {W : Given 𝓤 H A} {Γ : List (Item 𝓤)}
     {G : Goal 𝓤 H} where
@@ -116,6 +125,25 @@ module _ {M : Type 1} {𝓤 : URA M} {H : Heap 𝓤} {A : Atoms 𝓤} {K : Type 
         move t (4 ∷ 2 ∷ []) $ slice-opens t tt X 0 (x .ptr .0) (x .ptr .1) (x .name) (x .now) $
         -- [the first row; its closer; the second row; its closer; the frame]
         move t (4 ∷ 0 ∷ 2 ∷ 1 ∷ 3 ∷ []) $ go h .seq);
+  }
+
+  -- with a `&[S]` and then two
+  pub begins-three : K → (S X Y : Datum) (κs : Lfts 3) (ts : Shares 3) (s : RefT (List (Of S))) (x : RefT (List (Of X)))
+      (y : RefT (List (Of Y))) (φ : Type 0) → ent 𝓤 req (fact 𝓤 φ) →
+      (φ → Here K W E cs (three-open S X Y κs ts s x y (x .now) (y .now)) (runs C Λ E b q)) →
+      Here K W E cs (‵ (MutSlice (named 2) (κs .1 .1 .0) (type-of Y) .own y (sliceVal (y .ptr) (length (y .now)) ∷ [])) ∷ ‵
+      (MutSlice (named 1) (κs .1 .0) (type-of X) .own x (sliceVal (x .ptr) (length (x .now)) ∷ [])) ∷ ‵
+      (ShrSlice (named 0) (κs .0) (type-of S) .own s (sliceVal (s .ptr) (length (s .now)) ∷ []))
+      ∷ raw (toks 𝓤 A 3 κs ts) ∷ raw req ∷ []) (runs C Λ E b q)
+  begins-three t S X Y κs ts s x y φ asked go = record {
+    seq =
+        move t (5 ∷ []) $ use1 W (raw (fact 𝓤 φ)) asked $ heard t φ (λ h. move t (4 ∷ []) $ three-tokens-out t κs ts $
+        -- [the three tokens; the frame; the third slice; the second; the first]
+        move t (4 ∷ 2 ∷ []) $ slice-opens t tt Y 2 (y .ptr .0) (y .ptr .1) (y .name) (y .now) $
+        -- [the third row; its closer; the first token; the second; the frame; the second slice; the first]
+        move t (5 ∷ 3 ∷ []) $ slice-opens t tt X 1 (x .ptr .0) (x .ptr .1) (x .name) (x .now) $
+        -- [the second row; its closer; the third row; its closer; the first token; the frame; the first slice]
+        move t (5 ∷ 4 ∷ 6 ∷ 0 ∷ 2 ∷ 1 ∷ 3 ∷ []) $ go h .seq);
   }
 
 -- ---- the end: what was lent is closed, and what the contract ensures is shown of the result and the last values
@@ -218,4 +246,29 @@ module _ {M : Type 1} {𝓤 : URA M} {H : Heap 𝓤} {A : Atoms 𝓤} {K : Type 
         finishes ps R c (κ, (κ′, tt)) (p, (p′, tt)) a g t cs (ok .0) (ok .1) (ok .2)
         (subst (λ (Δ : List (Item 𝓤)). Seq K W Δ (prop (Ended-at ps R 𝓤 H A c (κ, (κ′, tt)) (p, (p′, tt)) a g (R .spell r))))
         (ok .3) (answers ps R c (κ, (κ′, tt)) (p, (p′, tt)) a g t r is ws fit says));
+  }
+
+  pub ends-three : K → (ps : List (Param 3)) (R : Datum) (c : Clauses 𝓤 (ended ps R)) (κs : Lfts 3) (ts : Shares 3)
+      (a : Args (ended ps R .signature) κs) (g : c κs a .ghost) (r : Of R) (is : Fine R r)
+      (S X Y : Datum) (s : RefT (List (Of S))) (x : RefT (List (Of X))) (y : RefT (List (Of Y)))
+      (us : List (Of X)) → Room (type-of X) (length (x .now)) → length us ≡ length (x .now) →
+      (us′ : List (Of Y)) → Room (type-of Y) (length (y .now)) → length us′ ≡ length (y .now) →
+      (ws : Fins κs (slots ps) (kept ps) a) → Returns 𝓤 H A ps R c κs ts a g E cs q r is ws
+      (‵ (MutSlice (named 2) (κs .1 .1 .0) (type-of Y) .own (at-place (y .ptr .0) (y .ptr .1) (y .name) us′)
+      (sliceVal (y .ptr) (length (y .now)) ∷ []))
+      ∷ ‵ (MutSlice (named 1) (κs .1 .0) (type-of X) .own (at-place (x .ptr .0) (x .ptr .1) (x .name) us)
+      (sliceVal (x .ptr) (length (x .now)) ∷ [])) ∷ raw (toks 𝓤 A 3 κs ts) ∷ []) →
+      fitsOf κs (slots ps) (kept ps) (stays ps) a ws →
+      ent 𝓤 (emp 𝓤) (c κs a .ensures g r (atExit (ended ps R) κs a ws)) →
+      Here K W E cs (three-open S X Y κs ts s x y us us′) (runs C Λ E return q)
+  ends-three t ps R c κs ts a g r is S X Y s x y us fits e us′ fits′ e′ ws ok fit says = record {
+    seq =
+        move t (3 ∷ 5 ∷ []) $ slice-closes t tt X 1 (x .ptr .0) (x .ptr .1) (x .name) (x .now) us fits e $
+        -- [the second slice; its token; the frame; the first token; the first slice; the third row; its closer]
+        move t (5 ∷ 6 ∷ []) $ slice-closes t tt Y 2 (y .ptr .0) (y .ptr .1) (y .name) (y .now) us′ fits′ e′ $
+        -- [the third slice; its token; the second slice; its token; the frame; the first token; the first slice]
+        move t (6 ∷ []) $ drop t $ move t (5 ∷ 3 ∷ 1 ∷ []) $ three-tokens-in t κs ts $ move t (3 ∷ 1 ∷ 2 ∷ 0 ∷ []) $
+        finishes ps R c κs ts a g t cs (ok .0) (ok .1) (ok .2)
+        (subst (λ (Δ : List (Item 𝓤)). Seq K W Δ (prop (Ended-at ps R 𝓤 H A c κs ts a g (R .spell r)))) (ok .3)
+        (answers ps R c κs ts a g t r is ws fit says));
   }

@@ -11,10 +11,11 @@ pub mod Locals
 pub mod Ends
 pub mod Contracts
 pub mod Owned
+pub mod Parts
 pub mod Elements
 pub mod Loops
 pub mod Folds
 pub mod Fills
+pub mod Arrays
 pub mod ElementRead
-pub mod ByHand
 pub mod Walking

@@ -1,4 +1,4 @@
--- The statements of a walk that move what locals hold: a slice lent again, its length, a copy, `()`, and a test that may return.
+-- The statements of a walk that move what locals hold: a slice lent again, its length, a copy, `()`, a test that may return.
 use mathlib.Core.Path.{_≡_, refl, sym, ap, subst, _∙_}
 use Prim.Native.Nat.{ℕ, zero, suc, _<_, _^_}
 use mathlib.Core.Bool.{Bool, not, _&&_}
@@ -13,11 +13,12 @@ use mir.Val.{Val, vbool, vptr, WT, hasTy}
 use prog.Memory.{fieldOf}
 use prog.Wp.{Heap, Calls, Loops, Wp, spotOf, afterSeq}
 use ghost.Atoms.{Atoms}
-use types.Kit.{Given, Goal, Item, Post, Seq, Step, step, _$_, runs, anyQ, post, move}
+use types.Kit.{Given, Goal, Item, Post, Seq, Step, step, ‵, _$_, runs, anyQ, post, move}
 use types.Run.{Rv, stop, hop, fld, from, load, of-opd, addr, and-then, no-more, assigns, unit-lit, first, branches, skips}
 use types.Part.{Part, sub, agg, look-in}
 use denote.Slice.{sliceTy, sliceVal}
-use Rattle.walks.proofs.Data.{Datum, Of, Fine, a-usize, a-bool, a-unit}
+use denote.Index.{row}
+use Rattle.walks.proofs.Data.{Datum, Of, type-of, Fine, a-usize, a-bool, a-unit}
 use Rattle.walks.proofs.Frames.{frame, stored, local-writes, local-part}
 use Rattle.walks.proofs.Params.{Cell, holds, fat, thin, spellOf, spelt}
 use Rattle.walks.proofs.Thin.{Here, Way}
@@ -141,3 +142,17 @@ module _ {M : Type 1} {𝓤 : URA M} {H : Heap 𝓤} {A : Atoms 𝓤} {K : Type 
   -- what is owned second comes first
   pub swaps : K → {i j : Item 𝓤} → Way K W E cs (j ∷ i ∷ Γ) G cs (i ∷ j ∷ Γ) G
   swaps t = record { go = λ s. record { seq = move t (0 ∷ 2 ∷ []) $ s .seq } }
+
+  -- what is owned third and fourth comes first
+  pub swaps-pairs : K → {i j k l : Item 𝓤} → Way K W E cs (k ∷ l ∷ i ∷ j ∷ Γ) G cs (i ∷ j ∷ k ∷ l ∷ Γ) G
+  swaps-pairs t = record { go = λ s. record { seq = move t (0 ∷ 3 ∷ 4 ∷ []) $ s .seq } }
+
+  -- a row of ys is one of us
+  pub as-row : K → (X : Datum) (b o : ℕ) (ys us : List (Of X)) → ys ≡ us →
+      Way K W E cs (‵ (row (type-of X) fullShare us b o) ∷ Γ) G cs (‵ (row (type-of X) fullShare ys b o) ∷ Γ) G
+  as-row t X b o ys us e = record {
+    go = λ s. record {
+      seq = subst (λ (zs : List (Of X)). Seq K W (frame E (spelt cs) ∷ ‵ (row (type-of X) fullShare zs b o) ∷ Γ) G) (sym e)
+          (s .seq);
+    };
+  }

@@ -140,38 +140,46 @@ abbrev pub offsetIn : Option (Ty × ℕ) → ℕ
 offsetIn none = zero
 offsetIn (some p) = p .1
 
--- field j of an X is an F: how it is got and put, and that the machine value has it there
-pub record Field (X F : Datum) (j : ℕ) : Type 2 where
+-- field j of an X is an F: how it is got, and that the machine value has it there
+pub record Has (X F : Datum) (j : ℕ) : Type 2 where
   pub get : Of X → Of F
-  pub with : Of F → Of X → Of X
   pub shape : X .ty ≡ tyStruct (symOf (X .ty)) (tysOf (X .ty))
   pub found : fieldAt zero (tysOf (X .ty)) j ≡ some (F .ty, offsetIn (fieldAt zero (tysOf (X .ty)) j))
   pub spells : (x : Of X) → X .spell x ≡ vstruct (valsOf (X .spell x))
   pub got : (x : Of X) → getV (valsOf (X .spell x)) j ≡ F .spell (get x)
-  pub set : (f : Of F) (x : Of X) → vstruct (setV (valsOf (X .spell x)) j (F .spell f)) ≡ X .spell (with f x)
   pub fine-get : (x : Of X) → Fine X x → Fine F (get x)
+
+-- and how it is put
+pub record Field (X F : Datum) (j : ℕ) : Type 2 where
+  pub has : Has X F j
+  pub with : Of F → Of X → Of X
+  pub set : (f : Of F) (x : Of X) → vstruct (setV (valsOf (X .spell x)) j (F .spell f)) ≡ X .spell (with f x)
   pub fine-with : (f : Of F) (x : Of X) → Fine F f → Fine X x → Fine X (with f x)
 
-abbrev offsetOf : Datum → ℕ → ℕ
+abbrev pub offsetOf : Datum → ℕ → ℕ
 offsetOf X j = offsetIn (fieldAt zero (tysOf (X .ty)) j)
 
--- the field's cell within the record's
+-- the field's cell, where the record's is
+pub field-within : {M : Type 1} (𝓤 : URA M) (H : Heap 𝓤) (A : Atoms 𝓤) (K : Type 0) (W : Given 𝓤 H A) → K →
+    (X F : Datum) (j : ℕ) (f : Has X F j) (b o : ℕ) (x : Of X) (i : Item 𝓤) (back : Val → Item 𝓤) →
+    Part K W i fullShare (X .ty) b o (X .spell x) back →
+    Part K W i fullShare (F .ty) b (o + offsetOf X j) (F .spell (f .get x))
+    (λ u. back (vstruct (setV (valsOf (X .spell x)) j u)))
+field-within 𝓤 H A K W t X F j f b o x i back p =
+    subst (λ (v : Val). Part K W i fullShare (F .ty) b (o + offsetOf X j) v
+    (λ u. back (vstruct (setV (valsOf (X .spell x)) j u)))) (f .got x)
+    (sub t j (f .found)
+    (subst (λ (v : Val). Part K W i fullShare (tyStruct (symOf (X .ty)) (tysOf (X .ty))) b o v back) (f .spells x)
+    (subst (λ (τ : Ty). Part K W i fullShare τ b o (X .spell x) back) (f .shape) p)))
+
 field-part : {M : Type 1} (𝓤 : URA M) (H : Heap 𝓤) (A : Atoms 𝓤) (K : Type 0) (W : Given 𝓤 H A) → K →
-    (X F : Datum) (j : ℕ) (f : Field X F j) (b o : ℕ) (x : Of X) →
+    (X F : Datum) (j : ℕ) (f : Has X F j) (b o : ℕ) (x : Of X) →
     Part K W (stands X b o x) fullShare (F .ty) b (o + offsetOf X j) (F .spell (f .get x))
     (λ u. ‵ (fat fullShare (X .ty) b o (vstruct (setV (valsOf (X .spell x)) j u))))
 field-part 𝓤 H A K W t X F j f b o x =
-    subst (λ (v : Val). Part K W (stands X b o x) fullShare (F .ty) b (o + offsetOf X j) v
-    (λ u. ‵ (fat fullShare (X .ty) b o (vstruct (setV (valsOf (X .spell x)) j u))))) (f .got x)
-    (subst (λ (τ : Ty). Part K W (‵ (fat fullShare τ b o (X .spell x))) fullShare (F .ty) b (o + offsetOf X j)
-    (getV (valsOf (X .spell x)) j) (λ u. ‵ (fat fullShare τ b o (vstruct (setV (valsOf (X .spell x)) j u))))) (sym (f .shape))
-    (subst (λ (v : Val). Part K W (‵ (fat fullShare (tyStruct (symOf (X .ty)) (tysOf (X .ty))) b o v)) fullShare (F .ty) b
-    (o + offsetOf X j) (getV (valsOf (X .spell x)) j) (λ u. ‵
-    (fat fullShare (tyStruct (symOf (X .ty)) (tysOf (X .ty))) b o (vstruct (setV (valsOf (X .spell x)) j u)))))
-    (sym (f .spells x))
-    (sub t j (f .found) (whole t))))
+    field-within 𝓤 H A K W t X F j f b o x (stands X b o x) (λ u. ‵ (fat fullShare (X .ty) b o u)) (whole t)
 
-field-of : (X F : Datum) (j : ℕ) (f : Field X F j) → fieldOf (X .ty) j ≡ some (F .ty, offsetOf X j)
+pub field-of : (X F : Datum) (j : ℕ) (f : Has X F j) → fieldOf (X .ty) j ≡ some (F .ty, offsetOf X j)
 field-of X F j f = subst (λ (τ : Ty). fieldOf τ j ≡ some (F .ty, offsetOf X j)) (sym (f .shape)) (f .found)
 
 -- ---- statements
@@ -210,7 +218,7 @@ module _ {M : Type 1} {𝓤 : URA M} {H : Heap 𝓤} {A : Atoms 𝓤} {K : Type 
       }
 
   -- `x = p.f;`
-  pub reads-field : K → (X F : Datum) {i : ℕ} (f : Field X F i) (x : Of X) {j k b o : ℕ} (is : Fine X x) →
+  pub reads-field : K → (X F : Datum) {i : ℕ} (f : Has X F i) (x : Of X) {j k b o : ℕ} (is : Fine X x) →
       cellIn cs j ≡ thin b o → T (inside E j && inside E k) × (F .ty ≡ spotOf 𝓤 H E k .0) →
       Way K W E (putAt cs k (holds F (f .get x) (f .fine-get x is))) (stands X b o x ∷ Γ) (runs C Λ E rest q) cs
       (stands X b o x ∷ Γ) (runs C Λ E (seq (assign (place k []) (rvOpd (copy (place j (deref (X .ty) ∷ field i ∷ [])))))
@@ -237,8 +245,8 @@ module _ {M : Type 1} {𝓤 : URA M} {H : Heap 𝓤} {A : Atoms 𝓤} {K : Type 
           seq =
               assigns t (of-opd t (read-one t 0 E cs refl k (F .spell y) (w .1) (ap spellOf d)))
               (from t (hop t (local-reads 𝓤 H A W E (spelt cs) (frame E (spelt cs) ∷ stands X b o x ∷ Γ) K 0 j (vptr b o) refl
-              (is-inside E j (w .0)) (spelt-at cs j ∙ ap spellOf c)) (fld t (field-of X F i f) (stop t))))
-              (store-in t 1 (field-part 𝓤 H A K W t X F i f b o x) (F .laws 𝓤 H A W .typed y (F .spell y ∷ []) is .0)) $
+              (is-inside E j (w .0)) (spelt-at cs j ∙ ap spellOf c)) (fld t (field-of X F i (f .has)) (stop t))))
+              (store-in t 1 (field-part 𝓤 H A K W t X F i (f .has) b o x) (F .laws 𝓤 H A W .typed y (F .spell y ∷ []) is .0)) $
               rewrite t 1 (λ (v : Val). ‵ (fat fullShare (X .ty) b o v)) (f .set y x) refl $ s .seq;
         };
       }

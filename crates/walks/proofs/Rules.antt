@@ -1,6 +1,6 @@
 -- The rules of a walk, one for each statement that a thin function has. A rule goes on with the locals as the statement leaves
 -- them.
-use mathlib.Core.Path.{_≡_, refl, sym, subst}
+use mathlib.Core.Path.{_≡_, refl, sym, ap, subst}
 use Prim.Native.Nat.{ℕ}
 use mathlib.Core.Option.{Option}
 use mathlib.Core.List.{List, [], _∷_}
@@ -12,12 +12,13 @@ use mir.Syntax.{Name, Ty, named, place, Opd as Operand, Body, seq, call}
 use mir.Val.{Val, WT, hasTy}
 use base.Logic.{ent, emp, id⊢}
 use base.Fml.{Lft, GName, Share, ftrue, flft}
-use prog.Wp.{Heap, Calls, Loops, spotOf}
+use prog.Wp.{Heap, Calls, Loops, spotOf, next}
 use ghost.Atoms.{Atoms}
-use contract.Lifetimes.{Lfts, toks}
+use contract.Lifetimes.{Lfts, Shares, toks}
 use contract.Monad.{fact}
-use types.Kit.{Given, Goal, Item, Post, Seq, Step, step, ‵, raw, _⊛_, _$_, runs, lands, use0, use1, split, join, move, drop}
-use types.Run.{land, stop, from}
+use types.Kit.{Given, Goal, Item, Post, Seq, Step, step, ‵, raw, _⊛_, _$_, runs, lands, settles, post, prop, use0, use1, split}
+use types.Kit.{join, move, drop}
+use types.Run.{land, land-last, stop, from}
 use denote.RattleType.{Denots}
 use denote.Ref.{RefT}
 use denote.Slice.{Room, sliceVal, shr-slice-copy}
@@ -28,7 +29,7 @@ use Rattle.walks.proofs.Frames.{frame, local-writes}
 use Rattle.walks.proofs.Params.{Cell, holds, spelt, Param, shared, lent, own, slots, kept, Ts}
 use Rattle.walks.proofs.Thin.{Here}
 use Rattle.walks.proofs.Statements.{putAt, spelt-put, inside, is-inside, areLocals, picked, params, args, Links}
-use Rattle.walks.proofs.Statements.{lastsOfRefs, Callee, Asks, Says, calls}
+use Rattle.walks.proofs.Statements.{lastsOfRefs, Callee, Asks, Says, calls, calls-ending, read-all}
 use Rattle.walks.proofs.Calls.{lends, comes-back, lends-shared, shared-back, owed-of, owed-shared, shared-own}
 
 -- ---- a result is stored
@@ -51,13 +52,26 @@ module _ {M : Type 1} {𝓤 : URA M} {H : Heap 𝓤} {A : Atoms 𝓤} {K : Type 
       subst (λ (vs : List (Option Val)). Seq K W (frame E vs ∷ Γ) (runs C Λ E rest q)) (sym (spelt-put cs k (holds D r is)))
       (s .seq)
 
+module _ {M : Type 1} {𝓤 : URA M} {H : Heap 𝓤} {A : Atoms 𝓤} {K : Type 0} {W : Given 𝓤 H A} {E : List (Ty × ℕ)}
+    {q : Post 𝓤 H} where
+  -- where the call ends its part
+  pub settles-in : K → {Γ : List (Item 𝓤)} (cs : List Cell) (D : Datum) (k : ℕ) → T (inside E k) →
+      D .ty ≡ spotOf 𝓤 H E k .0 → (r : Of D) (is : Fine D r) →
+      Here K W E (putAt cs k (holds D r is)) Γ (prop (post 𝓤 H q next)) →
+      Seq K W (frame E (spelt cs) ∷ Γ) (settles E (place k []) (D .spell r) q)
+  settles-in t {Γ} cs D k h e r is s =
+      land-last t (from t (stop t)) (local-writes 𝓤 H A W E (spelt cs) (frame E (spelt cs) ∷ Γ) K 0 k (D .spell r) refl
+      (is-inside E k h) (fits-local 𝓤 H A W D (spotOf 𝓤 H E k .0) e r is)) $
+      subst (λ (vs : List (Option Val)). Seq K W (frame E vs ∷ Γ) (prop (post 𝓤 H q next)))
+      (sym (spelt-put cs k (holds D r is))) (s .seq)
+
 -- ---- calls
 
 -- no references
-abbrev no-refs : List (Param 0)
+abbrev pub no-refs : List (Param 0)
 no-refs = []
 
-abbrev no-lifetimes : Lfts 0
+abbrev pub no-lifetimes : Lfts 0
 no-lifetimes = tt
 
 -- the operands of a call are locals of E, and its result goes to local k, of D's type
@@ -132,9 +146,19 @@ one-own T = own 0 tt T ∷ []
 abbrev pub two-lent : Datum → Datum → List (Param 2)
 two-lent T U = lent 0 tt T ∷ lent 1 tt U ∷ []
 
+abbrev pub shared-and-lent : Datum → Datum → List (Param 2)
+shared-and-lent T U = shared 0 tt T ∷ lent 1 tt U ∷ []
+
 -- the reference to the place (b, o), under the name δ, where x stands
 abbrev pub at-place : {X : Type 0} → ℕ → ℕ → GName → X → RefT X
 at-place b o δ x = record { ptr = (b, o); name = δ; now = x }
+
+-- there is room for m places where there is for n, and a slice of m is one of n
+pub room-for : (X : Datum) {m n : ℕ} → m ≡ n → Room (type-of X) n → Room (type-of X) m
+room-for X e = subst (Room (type-of X)) (sym e)
+
+pub as-long : {b o m n : ℕ} → m ≡ n → sliceVal (b, o) m ∷ [] ≡ sliceVal (b, o) n ∷ []
+as-long {b} {o} = ap (λ (i : ℕ). sliceVal (b, o) i ∷ [])
 
 -- the last values of a callee's arguments
 abbrev pub Lasting : {n : ℕ} (κs : Lfts n) (rs : List (Param n)) → Denots (Ts κs rs) → List Cell → List Operand → Type 0
@@ -163,6 +187,21 @@ module _ {M : Type 1} {𝓤 : URA M} {H : Heap 𝓤} {A : Atoms 𝓤} {K : Type 
   tokens-out t κ κ′ p p′ =
       step (λ s. use1 W (‵ (flft κ p) ⊛ (‵ (flft κ′ p′) ⊛ ‵ ftrue)) (id⊢ 𝓤 _) $ split t $ move t (1 ∷ []) $ split t $
       move t (1 ∷ []) $ drop t $ move t (1 ∷ 0 ∷ []) $ s)
+
+  -- of its three
+  pub three-tokens-in : K → (κs : Lfts 3) (ts : Shares 3) → Step K W (raw (toks 𝓤 A 3 κs ts) ∷ Γ) G
+      (‵ (flft (κs .0) (ts .0)) ∷ ‵ (flft (κs .1 .0) (ts .1 .0)) ∷ ‵ (flft (κs .1 .1 .0) (ts .1 .1 .0)) ∷ Γ) G
+  three-tokens-in t κs ts =
+      step (λ s. use0 W (‵ ftrue) (id⊢ 𝓤 (emp 𝓤)) $ move t (3 ∷ 0 ∷ []) $ join t $ move t (2 ∷ 0 ∷ []) $ join t $
+      move t (1 ∷ 0 ∷ []) $ join t $ use1 W (raw (toks 𝓤 A 3 κs ts)) (id⊢ 𝓤 _) $ s)
+
+  pub three-tokens-out : K → (κs : Lfts 3) (ts : Shares 3) →
+      Step K W (‵ (flft (κs .0) (ts .0)) ∷ ‵ (flft (κs .1 .0) (ts .1 .0)) ∷ ‵ (flft (κs .1 .1 .0) (ts .1 .1 .0)) ∷ Γ) G
+      (raw (toks 𝓤 A 3 κs ts) ∷ Γ) G
+  three-tokens-out t κs ts =
+      step (λ s. use1 W (‵ (flft (κs .0) (ts .0)) ⊛ (‵ (flft (κs .1 .0) (ts .1 .0)) ⊛ (‵ (flft (κs .1 .1 .0) (ts .1 .1 .0)) ⊛ ‵
+      ftrue))) (id⊢ 𝓤 _) $ split t $ move t (1 ∷ []) $ split t $ move t (1 ∷ []) $ split t $ move t (1 ∷ []) $ drop t $
+      move t (2 ∷ 1 ∷ 0 ∷ []) $ s)
 
 module _ {M : Type 1} {𝓤 : URA M} {H : Heap 𝓤} {A : Atoms 𝓤} {K : Type 0} {W : Given 𝓤 H A} {C : Calls 𝓤 H} {Λ : Loops 𝓤 H}
     {E : List (Ty × ℕ)} {cs : List Cell} {Γ : List (Item 𝓤)} {q : Post 𝓤 H} {f : Name} {os : List Operand} {k : ℕ} {rest : Body}
@@ -292,7 +331,7 @@ module _ {M : Type 1} {𝓤 : URA M} {H : Heap 𝓤} {A : Atoms 𝓤} {K : Type 
     seq =
         move t (1 ∷ []) $ lends t tt (type-of X) b o ys fits
         (λ α δ. move t (4 ∷ []) $ lends t tt (type-of Y) b′ o′ ys′ fits′ (λ β ε.
-        -- [β's token; the second reference; what is owed for it; α's token; the first reference; what is owed for it; the frame]
+        -- [β's token; the second reference; what is owed for it; α's token; the first reference; what is owed; the frame]
         move t (3 ∷ 0 ∷ []) $ tokens-in t $ move t (1 ∷ 3 ∷ 0 ∷ 2 ∷ 4 ∷ []) $
         calls t (lifetimes α β) (fullShare, (fullShare, tt)) (two-lent X Y) (at-place b o δ ys, (at-place b′ o′ ε ys′, tt))
         (((refl, fits), (tt, tt)), (((refl, fits′), (tt, tt)), tt)) 2 E cs
@@ -309,4 +348,48 @@ module _ {M : Type 1} {𝓤 : URA M} {H : Heap 𝓤} {A : Atoms 𝓤} {K : Type 
         Here K W E (putAt cs k (holds D (z .0) is)) (‵ (row (type-of X) fullShare (z .1) b o) ∷ ‵
         (row (type-of Y) fullShare (z .2) b′ o′) ∷ Γ) (runs C Λ E rest q))
         (λ i. (sym (e .0) i, sym (e .1) i, sym (e .2) i)) go is l l′))))));
+  }
+
+module _ {M : Type 1} {𝓤 : URA M} {H : Heap 𝓤} {A : Atoms 𝓤} {K : Type 0} {W : Given 𝓤 H A} {C : Calls 𝓤 H} {Λ : Loops 𝓤 H}
+    {E : List (Ty × ℕ)} {cs : List Cell} {Γ : List (Item 𝓤)} {q : Post 𝓤 H} {f : Name} {os : List Operand} {k : ℕ}
+    {D : Datum} where
+  -- the places of one open slice as a `&[X]`, and those of another as a `&mut [Y]`, by a call that ends its part
+  pub calls-shared-lent : K → (X : Datum) (b o : ℕ) (ys : List (Of X)) → Room (type-of X) (length ys) →
+      (Y : Datum) (b′ o′ : ℕ) (ys′ us′ : List (Of Y)) → Room (type-of Y) (length ys′) →
+      (g : Callee W C f 2 (params (shared-and-lent X Y) (picked cs os)) D) (s : Of D) → Ready 𝓤 H E os k D →
+      let xs : (α β : ℕ) → GName → GName → Denots (Ts (lifetimes α β) (shared-and-lent X Y)) = λ α β δ ε.
+      (at-place b o δ ys, (at-place b′ o′ ε ys′, tt)) in
+      (links : (α β : ℕ) (δ ε : GName) → Links (lifetimes α β) (shared-and-lent X Y) (xs α β δ ε) (picked cs os)) →
+      ((α β : ℕ) (δ ε : GName) → ent 𝓤 (emp 𝓤) (Asks g (lifetimes α β)
+      (args (lifetimes α β) (shared-and-lent X Y) (xs α β δ ε) (picked cs os)))) →
+      ((α β : ℕ) (δ ε : GName) (r : Of D) (ws : Lasting (lifetimes α β) (shared-and-lent X Y) (xs α β δ ε) cs os) →
+      ent 𝓤 (Says g (lifetimes α β) (args (lifetimes α β) (shared-and-lent X Y) (xs α β δ ε) (picked cs os)) r ws)
+      (fact 𝓤 ((r ≡ s) × (lastsOfRefs (lifetimes α β) (shared-and-lent X Y) (xs α β δ ε) (picked cs os) (links α β δ ε) ws .1 .0
+      ≡ us′)))) →
+      ((is : Fine D s) → length us′ ≡ length ys′ → Here K W E (putAt cs k (holds D s is))
+      (‵ (row (type-of X) fullShare ys b o) ∷ ‵ (row (type-of Y) fullShare us′ b′ o′) ∷ Γ) (prop (post 𝓤 H q next))) →
+      Here K W E cs (‵ (row (type-of X) fullShare ys b o) ∷ ‵ (row (type-of Y) fullShare ys′ b′ o′) ∷ Γ)
+      (runs C Λ E (call f os (place k [])) q)
+  calls-shared-lent t X b o ys fits Y b′ o′ ys′ us′ fits′ g s ok links asks says go = record {
+    seq =
+        move t (1 ∷ []) $ lends-shared t tt (type-of X) b o ys fits
+        (λ α δ. move t (4 ∷ []) $ lends t tt (type-of Y) b′ o′ ys′ fits′ (λ β ε.
+        -- [β's token; the second reference; what is owed for it; α's token; the first reference; what is owed; the frame]
+        move t (3 ∷ 0 ∷ []) $ tokens-in t $ move t (1 ∷ 3 ∷ 0 ∷ 2 ∷ 4 ∷ []) $
+        calls-ending t (lifetimes α β) (fullShare, (fullShare, tt)) (shared-and-lent X Y)
+        (at-place b o δ ys, (at-place b′ o′ ε ys′, tt)) (((refl, fits), (tt, tt)), (((refl, fits′), (tt, tt)), tt)) E
+        (picked cs os)
+        (‵ (owed-of (type-of Y) b′ o′ ys′ β ε) ∷ ‵ (owed-shared (type-of X) b o ys α) ∷ frame E (spelt cs) ∷ Γ)
+        (λ P. read-all (lifetimes α β) 3 E cs refl t (shared-and-lent X Y) (at-place b o δ ys, (at-place b′ o′ ε ys′, tt)) os
+        (ok .0) (links α β δ ε)) (links α β δ ε) g (asks α β δ ε) (λ r ws. (r ≡ s) × (ws .1 .0 ≡ us′)) (says α β δ ε)
+        (λ r ws e is.
+        -- [the last list; the tokens; what is owed for the second, for the first; the frame]
+        move t (1 ∷ []) $ tokens-out t (α ∷ []) (β ∷ []) fullShare fullShare $
+        move t (1 ∷ 2 ∷ 3 ∷ []) $ comes-back t tt (type-of Y) b′ o′ ys′ (ws .1 .0) β ε
+        (λ l′. move t (1 ∷ 2 ∷ []) $ shared-back t tt (type-of X) b o ys α $
+        move t (2 ∷ 0 ∷ 1 ∷ []) $ settles-in t cs D k (ok .1) (ok .2) r is
+        (subst (λ (z : Of D × List (Of Y)). (is : Fine D (z .0)) → length (z .1) ≡ length ys′ →
+        Here K W E (putAt cs k (holds D (z .0) is)) (‵ (row (type-of X) fullShare ys b o) ∷ ‵
+        (row (type-of Y) fullShare (z .1) b′ o′) ∷ Γ) (prop (post 𝓤 H q next)))
+        (λ i. (sym (e .0) i, sym (e .1) i)) go is l′)))));
   }

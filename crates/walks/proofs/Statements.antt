@@ -16,13 +16,14 @@ use ghost.Atoms.{Atoms, sem}
 use contract.Lifetimes.{Lfts, Shares, toks}
 use contract.Monad.{fact}
 use sound.WpLaws.{FmC}
-use types.Kit.{Given, Item, Post, Seq, ‵, raw, _⊛_, some as exists, _$_, nth, runs, lands, use1, split, join, move, pick}
-use types.Run.{Opd, Opds, stop, from, load, no-more, and-then}
+use types.Kit.{Given, Item, Post, Seq, ‵, raw, _⊛_, some as exists, _$_, nth, runs, lands, settles, use1, split, join, move}
+use types.Kit.{pick}
+use types.Run.{Opd, Opds, stop, from, load, no-more, and-then, first}
 use denote.RattleType.{Denots, flat, owns}
 use denote.Slice.{sliceVal}
 use denote.Steps.{heard}
 use denote.Triple.Statement.{Triple}
-use denote.Triple.Call.{calls-at}
+use denote.Triple.Call.{calls-at-last}
 use denote.Triple.Clauses.{Clauses, atExit, ensured, closing}
 use denote.Triple.End.{Fins, lastsOf}
 use denote.Triple.Spec.{tripleOf}
@@ -215,7 +216,7 @@ both-true true b h = (tt, h)
 both-true false b h = absurd h
 
 -- the machine values of a callee's arguments
-abbrev Vs : {n : ℕ} (κs : Lfts n) (rs : List (Param n)) (xs : Denots (Ts κs rs)) (ds : List Cell) → List Val
+abbrev pub Vs : {n : ℕ} (κs : Lfts n) (rs : List (Param n)) (xs : Denots (Ts κs rs)) (ds : List Cell) → List Val
 Vs κs rs xs ds = flat (Ts κs (params rs ds)) (valuesOf κs (params rs ds) (args κs rs xs ds))
 
 module _ {M : Type 1} {𝓤 : URA M} {H : Heap 𝓤} {A : Atoms 𝓤} {K : Type 0} {W : Given 𝓤 H A} {Γ : List (Item 𝓤)} where
@@ -224,31 +225,32 @@ module _ {M : Type 1} {𝓤 : URA M} {H : Heap 𝓤} {A : Atoms 𝓤} {K : Type 
   read-one t m E cs e k v h is = load t (from t (stop t)) (local-reads 𝓤 H A W E (spelt cs) Γ K m k v e (is-inside E k h)
       (spelt-at cs k ∙ is))
 
-  module _ {n : ℕ} (κs : Lfts n) (m : ℕ) (E : List (Ty × ℕ)) (cs : List Cell) (e : nth 𝓤 H A m Γ ≡ frame E (spelt cs)) where
-    -- local k, which holds c, and the operands after it
-    read-next : K → (rs : List (Param n)) (xs : Denots (Ts κs rs)) (k : ℕ) (c : Cell) (os : List Operand) → cellAt cs k ≡ c →
-        T (inside E k) → Links κs rs xs (c ∷ picked cs os) →
-        ((rs : List (Param n)) (xs : Denots (Ts κs rs)) → Links κs rs xs (picked cs os) →
-        Opds K W Γ E os (Vs κs rs xs (picked cs os))) → Opds K W Γ E (copy (place k []) ∷ os) (Vs κs rs xs (c ∷ picked cs os))
-    read-next t rs xs k room os is h l go = absurd l
-    read-next t rs xs k (holds D x f) os is h l go = and-then t (read-one t m E cs e k (D .spell x) h (ap spellOf is))
-        (go rs xs l)
-    read-next t [] xs k (fat b o j f) os is h l go = absurd l
-    read-next t (r ∷ rs) xs k (fat b o j f) os is h l go =
-        subst (λ (vs : List Val). Opds K W Γ E (copy (place k []) ∷ os) (vs ++ Vs κs rs (xs .1) (picked cs os))) (sym (l .0))
-        (and-then t (read-one t m E cs e k (sliceVal (b, o) j) h (ap spellOf is)) (go rs (xs .1) (l .1)))
-    read-next t [] xs k (thin b o) os is h l go = absurd l
-    read-next t (r ∷ rs) xs k (thin b o) os is h l go =
-        subst (λ (vs : List Val). Opds K W Γ E (copy (place k []) ∷ os) (vs ++ Vs κs rs (xs .1) (picked cs os))) (sym (l .0))
-        (and-then t (read-one t m E cs e k (vptr b o) h (ap spellOf is)) (go rs (xs .1) (l .1)))
+  module _ {n : ℕ} (κs : Lfts n) (E : List (Ty × ℕ)) where
+    -- an operand, which holds c, and the operands after it
+    pub read-next : K → (rs : List (Param n)) (xs : Denots (Ts κs rs)) (c : Cell) (x : Operand) (os : List Operand)
+        (ds : List Cell) → ((v : Val) → spellOf c ≡ some v → Opd K W Γ E x v) → Links κs rs xs (c ∷ ds) →
+        ((rs : List (Param n)) (xs : Denots (Ts κs rs)) → Links κs rs xs ds → Opds K W Γ E os (Vs κs rs xs ds)) →
+        Opds K W Γ E (x ∷ os) (Vs κs rs xs (c ∷ ds))
+    read-next t rs xs room x os ds reads l go = absurd l
+    read-next t rs xs (holds D y f) x os ds reads l go = and-then t (reads (D .spell y) refl) (go rs xs l)
+    read-next t [] xs (fat b o j f) x os ds reads l go = absurd l
+    read-next t (r ∷ rs) xs (fat b o j f) x os ds reads l go =
+        subst (λ (vs : List Val). Opds K W Γ E (x ∷ os) (vs ++ Vs κs rs (xs .1) ds)) (sym (l .0))
+        (and-then t (reads (sliceVal (b, o) j) refl) (go rs (xs .1) (l .1)))
+    read-next t [] xs (thin b o) x os ds reads l go = absurd l
+    read-next t (r ∷ rs) xs (thin b o) x os ds reads l go =
+        subst (λ (vs : List Val). Opds K W Γ E (x ∷ os) (vs ++ Vs κs rs (xs .1) ds)) (sym (l .0))
+        (and-then t (reads (vptr b o) refl) (go rs (xs .1) (l .1)))
 
-    read-all : K → (rs : List (Param n)) (xs : Denots (Ts κs rs)) (os : List Operand) → T (areLocals E os) →
+  module _ {n : ℕ} (κs : Lfts n) (m : ℕ) (E : List (Ty × ℕ)) (cs : List Cell) (e : nth 𝓤 H A m Γ ≡ frame E (spelt cs)) where
+    pub read-all : K → (rs : List (Param n)) (xs : Denots (Ts κs rs)) (os : List Operand) → T (areLocals E os) →
         Links κs rs xs (picked cs os) → Opds K W Γ E os (Vs κs rs xs (picked cs os))
     read-all t [] xs [] h l = no-more t
     read-all t (r ∷ rs) xs [] h l = absurd l
     read-all t rs xs (copy (place k []) ∷ os) h l =
         let w = both-true (inside E k) (areLocals E os) h in
-        read-next t rs xs k (cellAt cs k) os refl (w .0) l (λ ps ys j. read-all t ps ys os (w .1) j)
+        read-next κs E t rs xs (cellAt cs k) (copy (place k [])) os (picked cs os)
+        (λ v is. read-one t m E cs e k v (w .0) is) l (λ ps ys j. read-all t ps ys os (w .1) j)
     read-all t rs xs (copy (place k (s ∷ st)) ∷ os) h l = absurd h
     read-all t rs xs (int w j ∷ os) h l = absurd h
     read-all t rs xs (intNeg w j ∷ os) h l = absurd h
@@ -282,11 +284,57 @@ pub with-asked : {M : Type 1} (𝓤 : URA M) (P Q : SProp 𝓤) → ent 𝓤 (em
 with-asked 𝓤 P Q h = via 𝓤 (sep 𝓤 (emp 𝓤) P) (emp∗ 𝓤 P) (via 𝓤 (sep 𝓤 Q P) (monoL 𝓤 P h) (comm∗ 𝓤 Q P))
 
 module _ {M : Type 1} {𝓤 : URA M} {H : Heap 𝓤} {A : Atoms 𝓤} {K : Type 0} {W : Given 𝓤 H A} {C : Calls 𝓤 H} {Λ : Loops 𝓤 H}
-    {q : Post 𝓤 H} {f : Name} {os : List Operand} {d : Place} {rest : Body} {D : Datum} where
-  -- a call, where the references rs that it is handed and the tokens of their lifetimes are owned, and entry m of the rest is
-  -- the frame
-  pub calls : K → {n : ℕ} (κs : Lfts n) (ts : Shares n) (rs : List (Param n)) (xs : Denots (Ts κs rs)) → AllFine κs rs xs →
-      (m : ℕ) (E : List (Ty × ℕ)) (cs : List Cell) (Γ : List (Item 𝓤)) →
+    {f : Name} {os : List Operand} {d : Place} {D : Datum} where
+  -- a call that ends its part, where the references rs that it is handed and the tokens of their lifetimes are owned, and its
+  -- operands, which hold ds, can be read from the rest
+  pub calls-ending : K → {q : Post 𝓤 H} {n : ℕ} (κs : Lfts n) (ts : Shares n) (rs : List (Param n)) (xs : Denots (Ts κs rs)) →
+      AllFine κs rs xs → (E : List (Ty × ℕ)) (ds : List Cell) (Γ : List (Item 𝓤)) →
+      ((P : SProp 𝓤) → Opds K W (raw P ∷ Γ) E os (Vs κs rs xs ds)) → (l : Links κs rs xs ds) →
+      (g : Callee W C f n (params rs ds) D) → ent 𝓤 (emp 𝓤) (Asks g κs (args κs rs xs ds)) →
+      (φ : Of D → Fins κs (slots rs) (kept rs) xs → Type 0) →
+      ((r : Of D) (ws : Fins κs (slots (params rs ds)) (kept (params rs ds)) (args κs rs xs ds)) →
+      ent 𝓤 (Says g κs (args κs rs xs ds) r ws) (fact 𝓤 (φ r (lastsOfRefs κs rs xs ds l ws)))) →
+      ((r : Of D) (ws : Fins κs (slots rs) (kept rs) xs) → φ r ws → Fine D r →
+      Seq K W (lasts-said κs rs xs ws (raw (toks 𝓤 A n κs ts) ∷ Γ)) (settles E d (D .spell r) q)) →
+      Seq K W (refs κs rs xs (raw (toks 𝓤 A n κs ts) ∷ Γ)) (runs C Λ E (call f os d) q)
+  calls-ending t {q} {n} κs ts rs xs fine E ds Γ reads l g asks φ says k =
+      let ps = params rs ds in
+      let a = args κs rs xs ds in
+      let c = tripleOf 𝓤 H A (ended ps D .signature) (closing 𝓤 H A (ended ps D) (g .clauses)) in
+      let x : c .Ghost = ((κs, ts, tt, a, valuesOf κs ps a), g .ghost κs a) in
+      let tokens : Item 𝓤 = raw (toks 𝓤 A n κs ts) in
+      subst (λ (Δ : List (Item 𝓤)). Seq K W Δ (runs C Λ E (call f os d) q)) (sym (same-refs κs rs xs ds l (tokens ∷ Γ)))
+      (hands κs t ps a (all-fine κs rs xs fine ds) (move t (1 ∷ 0 ∷ []) $ join t $
+      use1 W (raw (c .pre x)) (with-asked 𝓤 (sep 𝓤 (toks 𝓤 A n κs ts) (sem 𝓤 H A (owns (Ts κs ps) a (valuesOf κs ps a))))
+      (Asks g κs a) asks) $
+      calls-at-last t (g .frames) c (g .meets) x (reads (c .pre x)) (λ v.
+      answered t (λ w. settles E d w q) (λ w. tt) D tokens
+      (λ r. ensured 𝓤 H A (ended ps D) (g .clauses) κs a (g .ghost κs a) r) v (id⊢ 𝓤 _) (λ r is.
+      move t (1 ∷ []) $ use1 W (exists (λ (ws : Fins κs (slots ps) (kept ps) a). ‵ (lastsOf κs (slots ps) (kept ps) a ws) ⊛ raw
+      (Says g κs a r ws))) (id⊢ 𝓤 _) $ pick t (λ ws.
+      split t $ move t (1 ∷ []) $ use1 W (raw (fact 𝓤 (φ r (lastsOfRefs κs rs xs ds l ws)))) (says r ws) $
+      heard t (φ r (lastsOfRefs κs rs xs ds l ws)) (λ e.
+      hears κs t ps a ws
+      (subst (λ (Δ : List (Item 𝓤)). Seq K W Δ (settles E d (D .spell r) q)) (same-lasts κs rs xs ds l ws (tokens ∷ Γ))
+      (k r (lastsOfRefs κs rs xs ds l ws) e is))))))))
+
+  -- one that is followed by more
+  pub calls-by : K → {q : Post 𝓤 H} {rest : Body} {n : ℕ} (κs : Lfts n) (ts : Shares n) (rs : List (Param n))
+      (xs : Denots (Ts κs rs)) → AllFine κs rs xs → (E : List (Ty × ℕ)) (ds : List Cell) (Γ : List (Item 𝓤)) →
+      ((P : SProp 𝓤) → Opds K W (raw P ∷ Γ) E os (Vs κs rs xs ds)) → (l : Links κs rs xs ds) →
+      (g : Callee W C f n (params rs ds) D) → ent 𝓤 (emp 𝓤) (Asks g κs (args κs rs xs ds)) →
+      (φ : Of D → Fins κs (slots rs) (kept rs) xs → Type 0) →
+      ((r : Of D) (ws : Fins κs (slots (params rs ds)) (kept (params rs ds)) (args κs rs xs ds)) →
+      ent 𝓤 (Says g κs (args κs rs xs ds) r ws) (fact 𝓤 (φ r (lastsOfRefs κs rs xs ds l ws)))) →
+      ((r : Of D) (ws : Fins κs (slots rs) (kept rs) xs) → φ r ws → Fine D r →
+      Seq K W (lasts-said κs rs xs ws (raw (toks 𝓤 A n κs ts) ∷ Γ)) (lands C Λ E d (D .spell r) rest q)) →
+      Seq K W (refs κs rs xs (raw (toks 𝓤 A n κs ts) ∷ Γ)) (runs C Λ E (seq (call f os d) rest) q)
+  calls-by t κs ts rs xs fine E ds Γ reads l g asks φ says k =
+      first t $ calls-ending t κs ts rs xs fine E ds Γ reads l g asks φ says (λ r ws e is. record { prf = k r ws e is .prf })
+
+  -- and one whose operands are locals, where entry m of the rest is the frame
+  pub calls : K → {q : Post 𝓤 H} {rest : Body} {n : ℕ} (κs : Lfts n) (ts : Shares n) (rs : List (Param n))
+      (xs : Denots (Ts κs rs)) → AllFine κs rs xs → (m : ℕ) (E : List (Ty × ℕ)) (cs : List Cell) (Γ : List (Item 𝓤)) →
       nth 𝓤 H A m Γ ≡ frame E (spelt cs) → T (areLocals E os) → (l : Links κs rs xs (picked cs os)) →
       (g : Callee W C f n (params rs (picked cs os)) D) →
       ent 𝓤 (emp 𝓤) (Asks g κs (args κs rs xs (picked cs os))) → (φ : Of D → Fins κs (slots rs) (kept rs) xs → Type 0) →
@@ -296,25 +344,5 @@ module _ {M : Type 1} {𝓤 : URA M} {H : Heap 𝓤} {A : Atoms 𝓤} {K : Type 
       ((r : Of D) (ws : Fins κs (slots rs) (kept rs) xs) → φ r ws → Fine D r →
       Seq K W (lasts-said κs rs xs ws (raw (toks 𝓤 A n κs ts) ∷ Γ)) (lands C Λ E d (D .spell r) rest q)) →
       Seq K W (refs κs rs xs (raw (toks 𝓤 A n κs ts) ∷ Γ)) (runs C Λ E (seq (call f os d) rest) q)
-  calls t {n} κs ts rs xs fine m E cs Γ at here l g asks φ says k =
-      let ds = picked cs os in
-      let ps = params rs ds in
-      let a = args κs rs xs ds in
-      let c = tripleOf 𝓤 H A (ended ps D .signature) (closing 𝓤 H A (ended ps D) (g .clauses)) in
-      let x : c .Ghost = ((κs, ts, tt, a, valuesOf κs ps a), g .ghost κs a) in
-      let tokens : Item 𝓤 = raw (toks 𝓤 A n κs ts) in
-      subst (λ (Δ : List (Item 𝓤)). Seq K W Δ (runs C Λ E (seq (call f os d) rest) q))
-      (sym (same-refs κs rs xs ds l (tokens ∷ Γ)))
-      (hands κs t ps a (all-fine κs rs xs fine ds) (move t (1 ∷ 0 ∷ []) $ join t $
-      use1 W (raw (c .pre x)) (with-asked 𝓤 (sep 𝓤 (toks 𝓤 A n κs ts) (sem 𝓤 H A (owns (Ts κs ps) a (valuesOf κs ps a))))
-      (Asks g κs a) asks) $
-      calls-at t (g .frames) c (g .meets) x (read-all κs (suc m) E cs at t rs xs os here l) (λ v.
-      answered t (λ w. lands C Λ E d w rest q) (λ w. tt) D tokens
-      (λ r. ensured 𝓤 H A (ended ps D) (g .clauses) κs a (g .ghost κs a) r) v (id⊢ 𝓤 _) (λ r is.
-      move t (1 ∷ []) $ use1 W (exists (λ (ws : Fins κs (slots ps) (kept ps) a). ‵ (lastsOf κs (slots ps) (kept ps) a ws) ⊛ raw
-      (Says g κs a r ws))) (id⊢ 𝓤 _) $ pick t (λ ws.
-      split t $ move t (1 ∷ []) $ use1 W (raw (fact 𝓤 (φ r (lastsOfRefs κs rs xs ds l ws)))) (says r ws) $
-      heard t (φ r (lastsOfRefs κs rs xs ds l ws)) (λ e.
-      hears κs t ps a ws
-      (subst (λ (Δ : List (Item 𝓤)). Seq K W Δ (lands C Λ E d (D .spell r) rest q)) (same-lasts κs rs xs ds l ws (tokens ∷ Γ))
-      (k r (lastsOfRefs κs rs xs ds l ws) e is))))))))
+  calls t κs ts rs xs fine m E cs Γ at here l g asks φ says k =
+      calls-by t κs ts rs xs fine E (picked cs os) Γ (λ P. read-all κs (suc m) E cs at t rs xs os here l) l g asks φ says k

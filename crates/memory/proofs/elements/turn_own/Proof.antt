@@ -65,7 +65,7 @@ turn-own-spec 𝓤 H 𝓜 𝓖 𝓡 =
     let e = begunBy g Idle q in
     let s = readBy g r p f k in
     begins-own ! a-process x (Turning g f p) (id⊢ 𝓤 _) (λ asked p-is.
-    reads-field ! a-process a-task task-field p p-is refl (tt, refl) ▹
+    reads-field ! a-process a-task (task-field .has) p p-is refl (tt, refl) ▹
     gets ! ends-is (endsBy f k) ((tt, tt, refl), tt) (asks-nothing 𝓤) (λ z ws. id⊢ 𝓤 _) (λ _.
     if-leaves ! refl tt
     (λ ended.
