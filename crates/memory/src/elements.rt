@@ -118,7 +118,8 @@ fn turn_own(p: &mut Process, a: Access, r: Register, f: Find)
 // The same for record i of the table.
 pub fn turn_at(ps: &mut [Process], i: usize, a: Access, r: Register, f: Find)
     requires { ⌜ (i < length (now ps)) × Turning a f (getD (now ps) i noProcess) ⌝ }
-    ensures { λ x. ⌜ now (ps .exit) ≡ set (now (ps .entry)) i (stateBy a r (getD (now (ps .entry)) i noProcess) f (getD (now (ps .entry)) i noProcess .task)) ⌝ }
+    ensures { λ x. ⌜ now (ps .exit) ≡ set (now (ps .entry)) i
+        (stateBy a r (getD (now (ps .entry)) i noProcess) f (getD (now (ps .entry)) i noProcess .task)) ⌝ }
 {
     turn_own(&mut ps[i], a, r, f);
 }

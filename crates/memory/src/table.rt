@@ -74,7 +74,8 @@ fn call(day: Day, ps: &mut [Process], x: Request) -> Outcome
 fn write_turn(day: Day, ps: &mut [Process], i: usize, k: Task) -> Outcome
     requires { ⌜ TurnAt day (now ps) i k ⌝ }
     ensures { λ x. ⌜ x ≡ acceptedOutcome day (answerBy (nothingFound 0) k) ⌝ }
-    ensures { λ x. ⌜ now (ps .exit) ≡ set (now (ps .entry)) i (stateBy (accessOf day k) zeroRegister (getD (now (ps .entry)) i noProcess) (nothingFound 0) k) ⌝ }
+    ensures { λ x. ⌜ now (ps .exit) ≡ set (now (ps .entry)) i
+        (stateBy (accessOf day k) zeroRegister (getD (now (ps .entry)) i noProcess) (nothingFound 0) k) ⌝ }
 {
     let a = accesses::access_of(day, k);
     let f = finds::nothing_found();
@@ -86,7 +87,8 @@ fn write_turn(day: Day, ps: &mut [Process], i: usize, k: Task) -> Outcome
 fn read_turn(day: Day, ps: &mut [Process], i: usize, k: Task, page: &mut [u32]) -> Outcome
     requires { ⌜ TurnAt day (now ps) i k × RoomFor (accessOf day k) (now page) ⌝ }
     ensures { λ x. ⌜ x ≡ acceptedOutcome day (answerBy (foundAt day (now (ps .entry)) i k) k) ⌝ }
-    ensures { λ x. ⌜ now (ps .exit) ≡ set (now (ps .entry)) i (stateBy (accessOf day k) (readAt day (now (ps .entry)) k) (getD (now (ps .entry)) i noProcess) (foundAt day (now (ps .entry)) i k) k) ⌝ }
+    ensures { λ x. ⌜ now (ps .exit) ≡ set (now (ps .entry)) i (stateBy (accessOf day k) (readAt day (now (ps .entry)) k)
+        (getD (now (ps .entry)) i noProcess) (foundAt day (now (ps .entry)) i k) k) ⌝ }
     ensures { λ x. ⌜ now (page .exit) ≡ pageBy (accessOf day k) (foundAt day (now (ps .entry)) i k) k (now (page .entry)) ⌝ }
 {
     let a = accesses::access_of(day, k);
@@ -130,7 +132,8 @@ pub fn open(day: Day, ps: &mut [Process], k: u32) -> Outcome
 pub fn step(day: Day, ps: &mut [Process], x: Request, page: &mut [u32]) -> Outcome
     ensures { λ r. ⌜ r ≡ outcomeOf (stepped (stateOf day (now (ps .entry))) (itemOf (now (page .entry)) x)) ⌝ }
     ensures { λ r. ⌜ now (ps .exit) ≡ stepped (stateOf day (now (ps .entry))) (itemOf (now (page .entry)) x) .state .table ⌝ }
-    ensures { λ r. ⌜ now (page .exit) ≡ pageAfter (now (page .entry)) (stepped (stateOf day (now (ps .entry))) (itemOf (now (page .entry)) x)) x ⌝ }
+    ensures { λ r. ⌜ now (page .exit) ≡
+        pageAfter (now (page .entry)) (stepped (stateOf day (now (ps .entry))) (itemOf (now (page .entry)) x)) x ⌝ }
 {
     if requests::is_opening(x) {
         return open(day, ps, snapshot::number_in(x));

@@ -245,8 +245,8 @@ module _ (M : Machine) (n : ℕ) (W : (H : ℕ → State (M .Process)) → Works
         r : Result (M .Process)
         r = turnAt M n H (d - 1) e page
 
-        go : Admitted M (H e) d (ltb (length page) (M .pageLength (H e .day .count))) (M .isIdle (processAt M H (d - 1) e), Idle) → (b : Option Call) → open-call (d - 1) ≡ b →
-            tied H e (d - 1) b → Acts (turn d) (leaves d (r .state) (r .answer) (r .page))
+        go : Admitted M (H e) d (ltb (length page) (M .pageLength (H e .day .count))) (M .isIdle (processAt M H (d - 1) e), Idle) →
+            (b : Option Call) → open-call (d - 1) ≡ b → tied H e (d - 1) b → Acts (turn d) (leaves d (r .state) (r .answer) (r .page))
         go ok none is t next = absurd (true≢false (sym (W H .idle e (d - 1) (processAt M H (d - 1) e) none t) ∙ ok .right))
         go ok (some c) is t next =
             let m = among ok in

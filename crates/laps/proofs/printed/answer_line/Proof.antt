@@ -61,13 +61,16 @@ returns-5 : tie.Need-returns-5
 returns-5 c =
     let x = c .before .before .before .before .args .x in
     let e = c .before .before .before .before .args .event in
-    ap (λ d. Printed.Page e d (c .before .a2 .given .0 .0) (c .before .a2 .given .0 .1 .0) (c .before .a2 .given .0 .1 .1 .0)) (c .before .before .before .number-in .ensures) ∙ sym (ap (answerLine x e) (c .before .a2 .given .1))
+    let page = c .before .a2 .given .0 in
+    ap (λ d. Printed.Page e d (page .0) (page .1 .0) (page .1 .1 .0)) (c .before .before .before .number-in .ensures)
+    ∙ sym (ap (answerLine x e) (c .before .a2 .given .1))
 
 returns-6 : tie.Need-returns-6
 returns-6 c =
     let x = c .before .before .before .before .args .x in
     let e = c .before .before .before .before .args .event in
-    ap (λ d. Printed.Written e d (c .before .a3 .given .0 .0)) (c .before .before .before .number-in .ensures) ∙ sym (ap (answerLine x e) (c .before .a3 .given .1))
+    ap (λ d. Printed.Written e d (c .before .a3 .given .0 .0)) (c .before .before .before .number-in .ensures)
+    ∙ sym (ap (answerLine x e) (c .before .a3 .given .1))
 
 pub answer-line-spec : {M : Type 1} → statement M
 answer-line-spec =

@@ -32,8 +32,10 @@ returns c =
     let words = at-line .before .shown .ensures .1 (a .page .now) refl in
     let shown = take (at-line .before .shown .result) (a .page .now) in
     let out = a .out .now in (
-      at-lay .lay .ensures .0 ∙ ap (λ l. laidPlace l shown out (a .to)) line ∙ ap (λ w. laidPlace (lineOf (a .o) (a .x)) w out (a .to)) words,
-      at-lay .lay .ensures .1 ∙ ap (λ l. laidText l shown out (a .to)) line ∙ ap (λ w. laidText (lineOf (a .o) (a .x)) w out (a .to)) words,
+      at-lay .lay .ensures .0 ∙ ap (λ l. laidPlace l shown out (a .to)) line
+          ∙ ap (λ w. laidPlace (lineOf (a .o) (a .x)) w out (a .to)) words,
+      at-lay .lay .ensures .1 ∙ ap (λ l. laidText l shown out (a .to)) line
+          ∙ ap (λ w. laidText (lineOf (a .o) (a .x)) w out (a .to)) words,
     )
 
 pub lay-spec : {M : Type 1} → statement M

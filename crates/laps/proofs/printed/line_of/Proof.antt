@@ -22,13 +22,17 @@ number-requires : tie.Need-number-requires
 number-requires c κs = search needs
 
 returns : tie.Need-returns
-returns c = c .answer-line .ensures ∙ sym (ap (lineOf (c .before .before .before .before .before .args .o)) (c .before .before .x .given .1))
+returns c =
+    let o = c .before .before .before .before .before .args .o in
+    c .answer-line .ensures ∙ sym (ap (lineOf o) (c .before .before .x .given .1))
 
 returns-2 : tie.Need-returns-2
 returns-2 c = sym (ap (lineOf (c .before .before .before .args .o)) (c .enum-told .given .1))
 
 returns-3 : tie.Need-returns-3
-returns-3 c = ap Printed.Refused (c .number .ensures) ∙ sym (ap (lineOf (c .before .before .before .before .before .args .o)) (c .before .before .x2 .given .1))
+returns-3 c =
+    let o = c .before .before .before .before .before .args .o in
+    ap Printed.Refused (c .number .ensures) ∙ sym (ap (lineOf o) (c .before .before .x2 .given .1))
 
 pub line-of-spec : {M : Type 1} → statement M
 line-of-spec =

@@ -7,7 +7,10 @@ use Rattle.laps.proofs.printed.shown.Statement.{statement}
 use Rattle.laps.proofs.printed.shown.Tie as tie
 
 returns : tie.Need-returns
-returns c = (omega arith, λ l q. let few = c .if1 .taken in take-all (c .before .args .size) l (omega arith) ∙ sym (take-all (c .before .args .count) l (omega arith)))
+returns c =
+    let a = c .before .args in
+    let few = c .if1 .taken in
+    (omega arith, λ l q. take-all (a .size) l (omega arith) ∙ sym (take-all (a .count) l (omega arith)))
 
 returns-2 : tie.Need-returns-2
 returns-2 c = search needs
