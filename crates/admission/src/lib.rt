@@ -3,7 +3,6 @@
 pub mod checks;
 pub mod outcomes;
 pub mod requests;
-pub mod words;
 
 use snapshot::Refusal;
 

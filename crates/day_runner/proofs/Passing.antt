@@ -13,8 +13,7 @@ use Rattle.laps.specs.declared.records.Running.{Running}
 use Rattle.streams.specs.System.{IsSent}
 use Rattle.streams.specs.Input.{Within, IsRefill}
 use Rattle.laps.specs.Laps.{Stand, blankStand, ran}
-use Rattle.laps.specs.Progress.{blankProgress, refilledProgress, flushedProgress, linesLeft}
-use Rattle.laps.specs.Progress.{CanLay, Rests, standAt, standOf}
+use Rattle.laps.specs.Progress.{blankProgress, refilledProgress, flushedProgress, linesLeft, CanLay, Rests, standAt, standOf}
 use Rattle.day_runner.specs.Passes.{given, Did, IsPass, LeadsTo}
 use Rattle.streams.proofs.Refilling.{left-long}
 use Rattle.laps.proofs.Laps.{ran-short}

@@ -22,8 +22,7 @@ use Rattle.snapshot.specs.declared.Request.the-variants.{Open, Update, Scan, Tu
 use Rattle.snapshot.specs.declared.Answer.the-variants.{Called}
 use Rattle.snapshot.proofs.Lists.{some-of-false}
 use Rattle.admission.specs.Requests.{itemOf, pageAfter, isOpening, isCall}
-use Rattle.admission.specs.Checks.{isRefusal, lastCauses}
-use Rattle.admission.specs.Checks.{openingRefusal, firstRefusal, lastRefusal}
+use Rattle.admission.specs.Checks.{isRefusal, lastCauses, openingRefusal, firstRefusal, lastRefusal}
 use Rattle.admission.specs.Outcomes.{refusedOutcome, acceptedOutcome, openedOutcome}
 use Rattle.admission.specs.declared.Survey.{Survey}
 use Rattle.snapshot.proofs.Admitted.{someBad}
@@ -39,7 +38,8 @@ use Rattle.unbounded.specs.Days.{figure3, mostReads, unsound, stepped}
 use Rattle.unbounded_tasks.specs.declared.Access.{Access}
 use Rattle.unbounded_tasks.specs.declared.Find.{Find}
 use Rattle.unbounded_tasks.specs.Accesses.{Admits, isReady, accessOf, callAccess, RoomFor}
-use Rattle.unbounded_turns.specs.Steps.{begunBy, stateBy, pageBy}
+use Rattle.unbounded_finds.specs.Finds.{pageBy}
+use Rattle.unbounded_turns.specs.Steps.{begunBy, stateBy}
 use Rattle.unbounded_tasks.specs.Tasks.{taskFor, answerBy}
 use Rattle.unbounded_tasks.specs.Surveys.{surveyOf, surveyedBy}
 use Rattle.unbounded_turns.proofs.Steps.{access-count, Accessed, a-read, a-write, turn-is-steps}

@@ -23,8 +23,7 @@ use Rattle.snapshot.specs.Refusals.{numberOf, Cause, firstCause}
 use Rattle.snapshot.specs.Tally.{Job, scan, update, Seen, call, turn, Call, started, opens, gains}
 use Rattle.snapshot.specs.Demand.{Result, Among, RefusalFits, Holds, admit, step}
 use Rattle.snapshot.specs.Days.{Machine, State, Item, openFor, updateCall, scanCall, turnOf, sees}
-use Rattle.snapshot.specs.Days.{outside, cannotArise, processOf, openingCauses, causes, callCauses, turnCauses}
-use Rattle.snapshot.specs.Days.{refusal}
+use Rattle.snapshot.specs.Days.{outside, cannotArise, processOf, openingCauses, causes, callCauses, turnCauses, refusal}
 use Rattle.snapshot.specs.Days.{openedBy, advance, calledBy, readFrom, turnBy, accept, method, openedFor}
 use Rattle.snapshot.proofs.Booleans.{not-false}
 use Rattle.snapshot.proofs.Admitted.{outside-among, Admitted, admitted-call, admitted-turn}

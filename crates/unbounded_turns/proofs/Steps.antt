@@ -1,22 +1,20 @@
 -- The steps of the code, what a turn finds, the record it leaves, its answer and its page list, are together a turn of `Turns`.
-use Prim.Native.Nat.{ℕ, _+_, _-_, _*_, _≤_}
+use Prim.Native.Nat.{ℕ, _+_, _-_}
 use mathlib.Core.Path.{_≡_, refl, sym, ap, _∙_}
-use mathlib.Core.Bool.{Bool, true, false, cond, true≢false, false≢true}
+use mathlib.Core.Bool.{true, false, cond, true≢false, false≢true}
 use mathlib.Core.List.{List, _++_}
 use mathlib.Core.Option.{Option, none, some}
 use native.Mathlib.Omega.{arith}
 use lib.ListN.{length, getD, take, drop, replicate}
 use lib.Seq.{length-take-le}
-use lib.Dec.{eqb}
 use Rattle.snapshot.specs.Lists.{over}
-use Rattle.snapshot.specs.Verdict.{Verdict, clean, lent, again, verdict}
-use Rattle.snapshot.specs.Marks.{lends, markFrom, passed}
+use Rattle.snapshot.specs.Verdict.{Verdict, clean, lent, again}
+use Rattle.snapshot.specs.Marks.{markFrom, passed}
 use Rattle.snapshot.specs.Demand.{Result}
 use Rattle.snapshot.specs.Days.{readFrom, turnBy}
 use Rattle.snapshot.specs.declared.Day.{Day}
 use Rattle.snapshot.specs.declared.Answer.the-variants.{Read, Page}
 use Rattle.snapshot.proofs.Lists.{take-over, over-take}
-use Rattle.snapshot.proofs.DoubleCollect.{Ends, nobody, lender, goes-on, verdict-ends}
 use Rattle.unbounded.specs.declared.Register.{Register}
 use Rattle.unbounded.specs.declared.Process.{Process}
 use Rattle.unbounded.specs.declared.Task.{Task}
@@ -30,10 +28,9 @@ use Rattle.unbounded.proofs.Places.{page-of-long}
 use Rattle.unbounded_tasks.specs.declared.Access.{Access}
 use Rattle.unbounded_tasks.specs.declared.Find.{Find}
 use Rattle.unbounded_tasks.specs.Accesses.{callAccess, isReady, accessOf, registerIn}
-use Rattle.unbounded_turns.specs.Steps.{decisionFind, findOf, withTask, readBy, writtenBy, stateBy}
-use Rattle.unbounded_tasks.specs.Tasks.{keepsBy, endsBy, taskBy}
-use Rattle.unbounded_turns.specs.Steps.{begunBy, pageBy}
-use Rattle.unbounded_tasks.specs.Tasks.{answerBy}
+use Rattle.unbounded_finds.specs.Finds.{decisionFind, findOf, pageBy}
+use Rattle.unbounded_turns.specs.Steps.{withTask, readBy, writtenBy, stateBy, begunBy}
+use Rattle.unbounded_tasks.specs.Tasks.{keepsBy, endsBy, taskBy, answerBy}
 use Rattle.unbounded_turns.proofs.Parts.{withRegister, withCollected}
 
 -- a turn in the steps of the code, where it found f
@@ -51,26 +48,6 @@ passed-by n end y none = refl
 passed-by n end y (some clean) = refl
 passed-by n end y (some (lent j)) = refl
 passed-by n end y (some again) = refl
-
--- a search for a lender passes at most the n processes
-pub find-passed : (a : Access) (r : Register) (p : Process) → findOf a r p .passed ≤ a .n
-unfolding findOf decision
-find-passed a r p =
-    let x = firstAfter (a .n) (a .pos) r (p .first) in
-    let y = secondAfter (a .n) (a .pos) r (p .second) in
-    go x y (endAfter (a .n) (a .pos) (a .now) (p .«first_end»)) (eqb (a .pos + 1) (2 * a .n))
-  where
-    by : (x y : List Register) (e : ℕ) (v : Verdict) →
-        Ends (a .n) (differs ascending x y) (lends (differs ascending x y) (p .moved)) v →
-        decisionFind (a .n) e y (some v) .passed ≤ a .n
-    by x y e _ (nobody h) = omega arith
-    by x y e _ (lender j l h g) = omega arith
-    by x y e _ (goes-on j l h g) = omega arith
-
-    go : (x y : List Register) (e : ℕ) (b : Bool) → let d = differs ascending x y in
-        decisionFind (a .n) e y (cond b (some (verdict (a .n) d (lends d (p .moved)))) none) .passed ≤ a .n
-    go x y e true = let d = differs ascending x y in by x y e _ (verdict-ends (a .n) d (lends d (p .moved)))
-    go x y e false = omega arith
 
 -- ---- a reading turn, the t-th of its task
 

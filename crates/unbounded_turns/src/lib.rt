@@ -1,5 +1,3 @@
-// The turns of Figure 3 (crate `unbounded`) on one process record by value: what a turn finds, and the record and the page list
-// that it leaves. Nothing here knows the table: a caller gives one record and the register that is read.
-pub mod collects;
-pub mod finds;
+// The turns of Figure 3 (crate `unbounded`) on one process record by value: the record that a call, a read or an answer leaves.
+// Nothing here knows the table: a caller gives one record and the register that is read.
 pub mod records;

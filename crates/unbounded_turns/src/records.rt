@@ -1,13 +1,13 @@
 // The record of a process by value: its parts, and the record after a call, a read or an answer, with the task that it had. A
 // record is copied once and changed in place; the caller stores its task.
-use crate::collects;
-use admission::words::over_words;
 use unbounded::Process;
 use unbounded::Register;
 use unbounded::Task;
+use unbounded_finds::collects;
 use unbounded_tasks::Access;
 use unbounded_tasks::Find;
 use unbounded_tasks::tasks;
+use words::over_words;
 ghost use mathlib.Core.Path.{_≡_};
 ghost use Prim.Native.Nat.{_≤_, _<_};
 ghost use Rattle.unbounded.specs.Processes.{isIdle, zeroProcess};

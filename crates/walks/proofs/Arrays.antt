@@ -29,8 +29,7 @@ use denote.Laws.{Is, shows}
 use denote.Memory.{cellAt, mem, shares, partAt, partOf}
 use denote.Array.{Array, arrayVal, array-tells, array-makes, array-lawful, array-copy}
 use denote.ArrayMemory.{array-apart, array-whole}
-use denote.Index.{row}
-use denote.Index.{place as place-of}
+use denote.Index.{row, place as place-of}
 use denote.Slice.{Room, sliceVal}
 use denote.Steps.{facts, owned}
 use denote.Struct.Steps.{spelt as spelt-out}
@@ -40,8 +39,7 @@ use Rattle.walks.proofs.Frames.{frame, stored, other, lacking, local-ou
 use Rattle.walks.proofs.Params.{Cell, holds, fat as slice, thin, spellOf, spelt, slots, kept, Ts}
 use Rattle.walks.proofs.Thin.{Here, Way}
 use Rattle.walks.proofs.Statements.{putAt, spelt-at, spelt-put, inside, is-inside, both-true, read-one, params, args}
-use Rattle.walks.proofs.Statements.{Links, lastsOfRefs, Callee, Asks, Says, calls-by}
-use Rattle.walks.proofs.Statements.{cellAt as cellIn}
+use Rattle.walks.proofs.Statements.{Links, lastsOfRefs, Callee, Asks, Says, calls-by, cellAt as cellIn}
 use Rattle.walks.proofs.Rules.{lifetimes, two-lent, at-place, lands-in, tokens-in, tokens-out}
 use Rattle.walks.proofs.Locals.{now-holds, put-same}
 use Rattle.walks.proofs.Parts.{Seen, read-seen, lacking-parts}

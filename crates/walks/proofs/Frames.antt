@@ -17,8 +17,7 @@ use base.Fml.{Share, ftrue, fat, froom, fdies}
 use prog.Wp.{Heap, Env, spotOf, release}
 use ghost.Atoms.{Atoms}
 use types.Kit.{Given, Goal, Item, ‵, raw, _⊛_, mean, ⋆, nth, del, put, pull, unpull, fill, pop, Seq, Step, step, frees, allocs}
-use types.Kit.{_$_, _∵_, !, qed, use1, use2, split, move, each, assume, done}
-use types.Kit.{frame as framing}
+use types.Kit.{_$_, _∵_, !, qed, use1, use2, split, move, each, assume, done, frame as framing}
 use types.Run.{Reads, Writes, alloc1, alloc0}
 use types.Part.{Part}
 

@@ -41,8 +41,7 @@ use Rattle.walks.proofs.Frames.{frame, local-reads}
 use Rattle.walks.proofs.Params.{Cell, holds, thin, spellOf, spelt, Param, slots, kept, stays, Ts}
 use Rattle.walks.proofs.Thin.{Here, Way, ended, Ended-at}
 use Rattle.walks.proofs.Statements.{putAt, spelt-at, inside, is-inside, both-true, read-one, picked, params, args, Links}
-use Rattle.walks.proofs.Statements.{lastsOfRefs, Callee, Asks, Says, calls}
-use Rattle.walks.proofs.Statements.{cellAt as cellIn}
+use Rattle.walks.proofs.Statements.{lastsOfRefs, Callee, Asks, Says, calls, cellAt as cellIn}
 use Rattle.walks.proofs.Rules.{Ready, Lasting, lifetime, one-own, at-place, lands-in, fits-local, token-in, token-out}
 use Rattle.walks.proofs.Locals.{now-holds}
 use Rattle.walks.proofs.Ends.{Returns, finishes, answers}

@@ -5,8 +5,7 @@ use mathlib.Core.Bool.{not}
 use mathlib.Core.List.{List, [], _∷_}
 use lib.Dec.{T}
 use Rattle.walks.proofs.Walking.{ !, Param, value, lent, a-u32, a-bool, thin, _▹_, begins-two, lends-again, gets, if-leaves}
-use Rattle.walks.proofs.Walking.{calls-two, ends-two}
-use Rattle.walks.proofs.Walking.{callee, nothing-asked, asks-nothing, three-given, three-said, id⊢}
+use Rattle.walks.proofs.Walking.{calls-two, ends-two, callee, nothing-asked, asks-nothing, three-given, three-said, id⊢}
 use Rattle.snapshot.specs.declared.Day.{Day}
 use Rattle.snapshot.specs.declared.Outcome.{Outcome}
 use Rattle.dayfile.specs.declared.Reading.{Reading}

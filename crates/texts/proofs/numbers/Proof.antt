@@ -8,8 +8,7 @@ use borrow.Author.Needs.{needs}
 use lib.ListN.{length, getD, take}
 use lib.Seq.{take-all}
 use Rattle.texts.specs.Decimal.{decimal}
-use Rattle.texts.specs.Laying.{spaced}
-use Rattle.texts.specs.Laying.{Laid}
+use Rattle.texts.specs.Laying.{spaced, Laid}
 use Rattle.texts.proofs.Laying.{laid-nothing, in-turn}
 use Rattle.texts.proofs.numbers.Statement.{statement}
 use Rattle.texts.proofs.numbers.Tie as tie

@@ -2,8 +2,7 @@
 use mathlib.Core.Path.{refl}
 use mathlib.Core.List.{List, [], _∷_}
 use Rattle.walks.proofs.Walking.{ !, Param, value, own, a-unit, thin, _▹_, begins-own, reads-whole, gets, stores-whole}
-use Rattle.walks.proofs.Walking.{stores-field}
-use Rattle.walks.proofs.Walking.{unit-stored, ends-own, callee, given, id⊢}
+use Rattle.walks.proofs.Walking.{stores-field, unit-stored, ends-own, callee, given, id⊢}
 use Rattle.unbounded_tasks.specs.Accesses.{Sound}
 use Rattle.unbounded_turns.specs.Steps.{begunBy}
 use Rattle.unbounded_turns.proofs.Steps.{begun-then-task}

@@ -4,14 +4,13 @@ use mathlib.Core.Path.{refl}
 use mathlib.Core.List.{List, [], _∷_}
 use lib.ListN.{length, getD}
 use Rattle.walks.proofs.Walking.{ !, Param, value, shared, a-usize, thin, _▹_, begins-shared, offset-fits, finds-element}
-use Rattle.walks.proofs.Walking.{copies-element}
-use Rattle.walks.proofs.Walking.{gets, ends-shared, callee, given, first-said, id⊢}
+use Rattle.walks.proofs.Walking.{copies-element, gets, ends-shared, callee, given, first-said, id⊢}
 use Rattle.unbounded.specs.Processes.{noProcess}
 use Rattle.unbounded_tasks.specs.Accesses.{Sound}
-use Rattle.unbounded_turns.specs.Steps.{findOf}
+use Rattle.unbounded_finds.specs.Finds.{findOf}
 use Rattle.memory.proofs.Types.{a-process, a-register, an-access, a-find}
-use Rattle.unbounded_turns.proofs.finds.find_page as finds
-use Rattle.unbounded_turns.proofs.finds.find_page.Met as finds-met
+use Rattle.unbounded_finds.proofs.finds.find_page as finds
+use Rattle.unbounded_finds.proofs.finds.find_page.Met as finds-met
 use Rattle.memory.proofs.elements.find_at.Key.{name as #f}
 use Rattle.memory.proofs.elements.find_at as f
 use Rattle.memory.proofs.elements.find_at.Statement as stated
@@ -25,7 +24,7 @@ unfolding code.routine
 find-at-spec 𝓤 H 𝓜 𝓖 𝓡 =
     let c = f.clauses 𝓤 H (𝓖 .A) (𝓜 .mem) (𝓡 .run) in
     let finds-is = callee 𝓤 H 𝓜 𝓖 𝓡 code.env (value an-access ∷ value a-register ∷ value a-process ∷ []) a-find
-    code.calls-unbounded-turns·finds·find-page
+    code.calls-unbounded-finds·finds·find-page
     (finds.clauses 𝓤 H (𝓖 .A) (𝓜 .mem) (𝓡 .run)) (λ κs a. tt) (finds-met.met 𝓤 H 𝓜 𝓖 𝓡) in
     thin ps a-find 𝓤 H 𝓜 𝓖 𝓡 code.env c _ _ #f (code.unfolded 𝓤 H 𝓜 𝓡) (λ κs qs a h are bs.
     let x = a .0 in

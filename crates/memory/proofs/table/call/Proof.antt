@@ -6,8 +6,7 @@ use mathlib.Core.Option.{none}
 use lib.Dec.{T}
 use lib.ListN.{getD, set}
 use Rattle.walks.proofs.Walking.{ !, Param, value, lent, a-usize, a-unit, thin, _▹_, begins-lent, lends-again, gets, gets-also}
-use Rattle.walks.proofs.Walking.{calls-lent, ends-lent}
-use Rattle.walks.proofs.Walking.{callee, asks-nothing, given, two-given, two-said, unit-said, id⊢}
+use Rattle.walks.proofs.Walking.{calls-lent, ends-lent, callee, asks-nothing, given, two-given, two-said, unit-said, id⊢}
 use Rattle.snapshot.specs.Requests.{numberIn}
 use Rattle.snapshot.specs.declared.Answer.the-variants.{Called}
 use Rattle.unbounded.specs.Processes.{noProcess}

@@ -6,8 +6,7 @@ use mathlib.Core.List.{List, [], _∷_, foldl}
 use lib.Dec.{T}
 use lib.ListN.{length, getD}
 use Rattle.walks.proofs.Walking.{ !, Param, value, shared, a-usize, a-bool, thin, _▹_, begins-shared, gets, gets-some}
-use Rattle.walks.proofs.Walking.{calls-passed-is}
-use Rattle.walks.proofs.Walking.{counts, copies, if-leaves, ends-shared, callee, asks-nothing, given, id⊢}
+use Rattle.walks.proofs.Walking.{calls-passed-is, counts, copies, if-leaves, ends-shared, callee, asks-nothing, given, id⊢}
 use Rattle.snapshot.specs.Requests.{numberIn}
 use Rattle.unbounded.specs.Processes.{noProcess, isIdle}
 use Rattle.unbounded_tasks.specs.Surveys.{surveyOf, surveyedBy}

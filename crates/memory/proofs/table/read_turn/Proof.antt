@@ -9,9 +9,11 @@ use Rattle.walks.proofs.Walking.{swaps, gets, gets-also}
 use Rattle.walks.proofs.Walking.{calls-shared-is, calls-lent, ends-two, callee, given, three-given, two-said, unit-said, id⊢}
 use Rattle.unbounded.specs.Processes.{noProcess, turnsOf}
 use Rattle.unbounded_tasks.specs.Accesses.{Sound, accessOf, readsIn, RoomFor}
-use Rattle.unbounded_turns.specs.Steps.{stateBy, pageBy}
+use Rattle.unbounded_finds.specs.Finds.{pageBy}
+use Rattle.unbounded_turns.specs.Steps.{stateBy}
 use Rattle.unbounded_tasks.specs.Tasks.{answerBy}
-use Rattle.unbounded_turns.proofs.Steps.{find-passed, access-count}
+use Rattle.unbounded_finds.proofs.Passed.{find-passed}
+use Rattle.unbounded_turns.proofs.Steps.{access-count}
 use Rattle.admission.specs.Outcomes.{acceptedOutcome}
 use Rattle.memory.specs.Turning.{TurnAt, readAt, foundAt}
 use Rattle.memory.proofs.Types.{a-process, a-register, a-task, an-access, a-find, a-day, an-answer, an-outcome}
@@ -23,8 +25,8 @@ use Rattle.memory.proofs.elements.register_at as register
 use Rattle.memory.proofs.elements.register_at.Met as register-met
 use Rattle.memory.proofs.elements.find_at as find
 use Rattle.memory.proofs.elements.find_at.Met as find-met
-use Rattle.unbounded_turns.proofs.finds.lay_page as lay
-use Rattle.unbounded_turns.proofs.finds.lay_page.Met as lay-met
+use Rattle.unbounded_finds.proofs.finds.lay_page as lay
+use Rattle.unbounded_finds.proofs.finds.lay_page.Met as lay-met
 use Rattle.memory.proofs.elements.turn_at as turns
 use Rattle.memory.proofs.elements.turn_at.Met as turns-met
 use Rattle.unbounded_tasks.proofs.tasks.answer as answer
@@ -55,7 +57,7 @@ read-turn-spec 𝓤 H 𝓜 𝓖 𝓡 =
     a-find code.calls-memory·elements·find-at
     (find.clauses 𝓤 H (𝓖 .A) (𝓜 .mem) (𝓡 .run)) (λ κs a. tt) (find-met.met 𝓤 H 𝓜 𝓖 𝓡) in
     let lay-is = callee 𝓤 H 𝓜 𝓖 𝓡 code.env (value an-access ∷ value a-task ∷ value a-find ∷ lent 0 tt a-u32 ∷ []) a-unit
-    code.calls-unbounded-turns·finds·lay-page
+    code.calls-unbounded-finds·finds·lay-page
     (lay.clauses 𝓤 H (𝓖 .A) (𝓜 .mem) (𝓡 .run)) (λ κs a. tt) (lay-met.met 𝓤 H 𝓜 𝓖 𝓡) in
     let turns-is = callee 𝓤 H 𝓜 𝓖 𝓡 code.env (lent 0 tt a-process ∷ value a-usize ∷ value an-access ∷ value a-register ∷ value
     a-find ∷ []) a-unit code.calls-memory·elements·turn-at

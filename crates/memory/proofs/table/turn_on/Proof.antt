@@ -15,7 +15,8 @@ use Rattle.snapshot.specs.Requests.{numberIn}
 use Rattle.unbounded.specs.Registers.{zeroRegister}
 use Rattle.unbounded.specs.Processes.{noProcess}
 use Rattle.unbounded_tasks.specs.Accesses.{isReady, accessOf}
-use Rattle.unbounded_turns.specs.Steps.{nothingFound, stateBy, pageBy}
+use Rattle.unbounded_finds.specs.Finds.{nothingFound, pageBy}
+use Rattle.unbounded_turns.specs.Steps.{stateBy}
 use Rattle.unbounded_tasks.specs.Tasks.{answerBy}
 use Rattle.admission.specs.Requests.{itemOf, isOpening, isCall}
 use Rattle.admission.specs.Outcomes.{acceptedOutcome}

@@ -5,22 +5,22 @@ use mathlib.Core.Path.{refl, sym, ap, subst}
 use mathlib.Core.List.{List, [], _∷_}
 use lib.ListN.{getD, set}
 use Rattle.walks.proofs.Walking.{ !, Param, value, lent, a-usize, a-unit, thin, _▹_, begins-lent, lends-again, gets, gets-also}
-use Rattle.walks.proofs.Walking.{calls-lent, ends-lent}
-use Rattle.walks.proofs.Walking.{callee, asks-nothing, given, two-given, two-said, unit-said, id⊢}
+use Rattle.walks.proofs.Walking.{calls-lent, ends-lent, callee, asks-nothing, given, two-given, two-said, unit-said, id⊢}
 use Rattle.unbounded.specs.Registers.{zeroRegister}
 use Rattle.unbounded.specs.Processes.{noProcess, turnsOf}
 use Rattle.unbounded_tasks.specs.Accesses.{Sound, accessOf}
-use Rattle.unbounded_turns.specs.Steps.{nothingFound, stateBy}
+use Rattle.unbounded_finds.specs.Finds.{nothingFound}
+use Rattle.unbounded_turns.specs.Steps.{stateBy}
 use Rattle.unbounded_tasks.specs.Tasks.{answerBy}
 use Rattle.admission.specs.Outcomes.{acceptedOutcome}
 use Rattle.memory.specs.Turning.{TurnAt}
 use Rattle.memory.proofs.Types.{a-process, a-register, a-task, an-access, a-find, a-day, an-answer, an-outcome}
 use Rattle.unbounded_tasks.proofs.accesses.access_of as access
 use Rattle.unbounded_tasks.proofs.accesses.access_of.Met as access-met
-use Rattle.unbounded_turns.proofs.finds.nothing_found as nothing
-use Rattle.unbounded_turns.proofs.finds.nothing_found.Met as nothing-met
-use Rattle.unbounded_turns.proofs.collects.no_register as no-register
-use Rattle.unbounded_turns.proofs.collects.no_register.Met as no-register-met
+use Rattle.unbounded_finds.proofs.finds.nothing_found as nothing
+use Rattle.unbounded_finds.proofs.finds.nothing_found.Met as nothing-met
+use Rattle.unbounded_finds.proofs.collects.no_register as no-register
+use Rattle.unbounded_finds.proofs.collects.no_register.Met as no-register-met
 use Rattle.memory.proofs.elements.turn_at as turns
 use Rattle.memory.proofs.elements.turn_at.Met as turns-met
 use Rattle.unbounded_tasks.proofs.tasks.answer as answer
@@ -42,9 +42,9 @@ write-turn-spec 𝓤 H 𝓜 𝓖 𝓡 =
     let access-is = callee 𝓤 H 𝓜 𝓖 𝓡 code.env (value a-day ∷ value a-task ∷ []) an-access
     code.calls-unbounded-tasks·accesses·access-of
     (access.clauses 𝓤 H (𝓖 .A) (𝓜 .mem) (𝓡 .run)) (λ κs a. tt) (access-met.met 𝓤 H 𝓜 𝓖 𝓡) in
-    let nothing-is = callee 𝓤 H 𝓜 𝓖 𝓡 code.env [] a-find code.calls-unbounded-turns·finds·nothing-found
+    let nothing-is = callee 𝓤 H 𝓜 𝓖 𝓡 code.env [] a-find code.calls-unbounded-finds·finds·nothing-found
     (nothing.clauses 𝓤 H (𝓖 .A) (𝓜 .mem) (𝓡 .run)) (λ κs a. tt) (nothing-met.met 𝓤 H 𝓜 𝓖 𝓡) in
-    let no-register-is = callee 𝓤 H 𝓜 𝓖 𝓡 code.env [] a-register code.calls-unbounded-turns·collects·no-register
+    let no-register-is = callee 𝓤 H 𝓜 𝓖 𝓡 code.env [] a-register code.calls-unbounded-finds·collects·no-register
     (no-register.clauses 𝓤 H (𝓖 .A) (𝓜 .mem) (𝓡 .run)) (λ κs a. tt) (no-register-met.met 𝓤 H 𝓜 𝓖 𝓡) in
     let turns-is = callee 𝓤 H 𝓜 𝓖 𝓡 code.env (lent 0 tt a-process ∷ value a-usize ∷ value an-access ∷ value a-register ∷ value
     a-find ∷ []) a-unit code.calls-memory·elements·turn-at

@@ -1,0 +1,2 @@
+-- How many processes a search for a lender passes.
+pub mod Passed

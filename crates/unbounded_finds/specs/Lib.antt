@@ -1,0 +1,2 @@
+-- What a turn finds.
+pub mod Finds
