@@ -20,7 +20,7 @@ use Rattle.snapshot.specs.declared.Request.{Request}
 use Rattle.snapshot.specs.declared.Request.the-variants.{Open, Update, Scan, Turn}
 use Rattle.snapshot.proofs.Causes.{accepted-passes, first-none, first-some}
 use Rattle.snapshot.proofs.Admitted.{someBad, Suited, Admitted, suits, admitted}
-use Rattle.admission.specs.Requests.{itemOf, isOpening, isCall}
+use Rattle.requests.specs.Requests.{itemOf, isOpening, isCall}
 use Rattle.admission.specs.Checks.{isRefusal, openingChecks, isShort, firstCauses, wrongState, lastCauses}
 
 -- ---- a refusal, or none

@@ -16,7 +16,7 @@ use Rattle.snapshot.specs.declared.Refusal.the-variants.{OpenState, CannotArise
 use Rattle.admission.specs.declared.Survey.{Survey}
 use Rattle.admission.specs.declared.Check.{Check}
 use Rattle.admission.specs.declared.Check.the-variants.{Passed, Refused}
-use Rattle.admission.specs.Requests.{isCall}
+use Rattle.requests.specs.Requests.{isCall}
 
 -- the refusal that a check is, if it is one
 abbrev pub asOption : Check → Option Refusal

@@ -2,7 +2,6 @@
 // that come after it.
 use crate::Check;
 use crate::Survey;
-use crate::requests;
 use snapshot::Day;
 use snapshot::Refusal;
 use snapshot::Request;

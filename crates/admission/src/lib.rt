@@ -2,7 +2,6 @@
 // looks at its own records and hands over what it found, a `Survey`; no function here sees a record.
 pub mod checks;
 pub mod outcomes;
-pub mod requests;
 
 use snapshot::Refusal;
 

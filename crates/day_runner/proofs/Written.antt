@@ -8,7 +8,7 @@ use mathlib.Core.Bool.{Bool, true, false, true≢false}
 use mathlib.Core.List.{List, [], _∷_, _++_, append-assoc, append-nil}
 use lib.ListN.{length, length-append}
 use Rattle.days.specs.Happenings.{dayOf}
-use Rattle.laps.specs.Printed.{printed, printedUntil}
+use Rattle.daylines.specs.Printed.{printed, printedUntil}
 use Rattle.streams.specs.Input.{Gave, came, interrupted, fault, filled}
 use Rattle.laps.specs.Laps.{Stand, blankStand, ran}
 use Rattle.day_runner.specs.Passes.{given, afterPass, Did, LeadsTo, outputOf, IsRun}

@@ -14,7 +14,7 @@ use Rattle.dayfile.specs.declared.Reading.{Reading}
 use Rattle.dayfile.specs.declared.Reading.the-variants.{Found, End, Refused}
 use Rattle.unbounded.specs.declared.Process.{Process}
 use Rattle.unbounded.specs.Days.{stepped}
-use Rattle.admission.specs.Requests.{itemOf, pageAfter}
+use Rattle.requests.specs.Requests.{itemOf, pageAfter}
 use Rattle.memory.specs.Tables.{stateOf, outcomeOf}
 
 -- whether no record was found

@@ -30,7 +30,7 @@ use Rattle.daytext.proofs.Room.{laid-with-room}
 use Rattle.daytext.proofs.Lengths.{line-fits}
 use Rattle.streams.specs.declared.input.Input.{Input}
 use Rattle.laps.specs.declared.records.Progress.{Progress}
-use Rattle.laps.specs.Printed.{lineOf, lineIn}
+use Rattle.daylines.specs.Printed.{lineOf, lineIn}
 use Rattle.streams.specs.Input.{Within, inputLeft}
 use Rattle.streams.proofs.Refilling.{left-long}
 use Rattle.laps.specs.Progress.{Takes, nextIn, canGo, closedProgress, progressPast, linesLeft, CanLay, standAt}

@@ -21,7 +21,7 @@ use Rattle.dayfile.proofs.Files.{readings-unfold}
 use Rattle.dayfile.proofs.Prefix.{reading-prefix}
 use Rattle.days.specs.Happenings.{Box, boxAfter, happeningIn, happenings, recordsIn}
 use Rattle.daytext.specs.Lines.{textOf, bodyOf}
-use Rattle.laps.specs.Printed.{lineIn, linesOf, printout}
+use Rattle.daylines.specs.Printed.{lineIn, linesOf, printout}
 use Rattle.laps.specs.Laps.{Stand, lapOn, lap, laps}
 use Rattle.laps.proofs.Laps.{laps-over}
 

@@ -8,7 +8,7 @@ use Rattle.dayfile.specs.Reader.{reading}
 use Rattle.dayfile.specs.declared.Reading.{Reading}
 use Rattle.dayfile.specs.declared.Reading.the-variants.{Found, End, Refused}
 use Rattle.days.specs.Happenings.{Box, blankBox, boxAfter, happeningIn}
-use Rattle.laps.specs.Printed.{lineIn}
+use Rattle.daylines.specs.Printed.{lineIn}
 use Rattle.streams.specs.Input.{Incoming}
 
 -- where a run stands: its box, its input, the lines that are laid, and whether all is done

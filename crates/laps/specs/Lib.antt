@@ -1,4 +1,3 @@
--- What is printed of a day file, and the laps of a run that print it. Read in this order; Progress has what the code holds of a run.
-pub mod Printed
+-- The laps of a run that prints a day file. Progress has what the code holds of a run.
 pub mod Laps
 pub mod Progress

@@ -1,4 +1,3 @@
 // A run of a day file on the bytes that came: each record that lies whole in the input buffer is read, asked of the table, and its
 // line laid into the output buffer.
-mod printed;
 pub mod records;

@@ -1,5 +1,4 @@
 // The records in the input buffer: each is read, asked of the table, and its line laid into the output.
-use crate::printed;
 use dayfile::Reading;
 use daytext::LONGEST;
 use memory::table;
@@ -13,7 +12,7 @@ ghost use lib.ListN.{length, take, replicate};
 ghost use Rattle.unbounded.specs.Processes.{zeroProcess};
 ghost use Rattle.daytext.specs.Buffer.{laidPlace, laidText};
 ghost use Rattle.streams.specs.Input.{Within};
-ghost use Rattle.laps.specs.Printed.{lineOf};
+ghost use Rattle.daylines.specs.Printed.{lineOf};
 ghost use Rattle.laps.specs.Laps.{ran};
 ghost use Rattle.laps.specs.Progress.{blankProgress, refilledProgress, flushedProgress, canGo, closedProgress, progressPast};
 ghost use Rattle.laps.specs.Progress.{CanLay, Takes, nextIn, standOf};
@@ -167,9 +166,9 @@ fn past(at: Progress, x: Reading, o: Outcome, page: &[u32], out: &mut [u8]) -> P
 {
     let input = at.input;
     let day = o.day;
-    let written = printed::lay(x, o, page, out, at.written);
+    let written = daylines::lay(x, o, page, out, at.written);
     let Reading::Found { record: _, next } = x else {
-        return closed(at, day, written, printed::is_end(x));
+        return closed(at, day, written, daylines::is_end(x));
     };
     Progress {
         day,

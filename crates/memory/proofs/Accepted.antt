@@ -21,7 +21,7 @@ use Rattle.snapshot.specs.declared.Request.{Request}
 use Rattle.snapshot.specs.declared.Request.the-variants.{Open, Update, Scan, Turn}
 use Rattle.snapshot.specs.declared.Answer.the-variants.{Called}
 use Rattle.snapshot.proofs.Lists.{some-of-false}
-use Rattle.admission.specs.Requests.{itemOf, pageAfter, isOpening, isCall}
+use Rattle.requests.specs.Requests.{itemOf, pageAfter, isOpening, isCall}
 use Rattle.admission.specs.Checks.{isRefusal, lastCauses, openingRefusal, firstRefusal, lastRefusal}
 use Rattle.admission.specs.Outcomes.{refusedOutcome, acceptedOutcome, openedOutcome}
 use Rattle.admission.specs.declared.Survey.{Survey}

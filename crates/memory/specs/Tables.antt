@@ -11,7 +11,7 @@ use Rattle.snapshot.specs.declared.Day.{Day}
 use Rattle.snapshot.specs.declared.Outcome.{Outcome}
 use Rattle.snapshot.specs.declared.Refusal.{Refusal}
 use Rattle.snapshot.specs.declared.Request.{Request}
-use Rattle.admission.specs.Requests.{itemOf}
+use Rattle.requests.specs.Requests.{itemOf}
 use Rattle.unbounded.specs.declared.Process.{Process}
 use Rattle.unbounded.specs.Registers.{ascending}
 use Rattle.unbounded.specs.Days.{figure3}

@@ -11,7 +11,7 @@ use Rattle.snapshot.specs.declared.Outcome.{Outcome}
 use Rattle.dayfile.specs.declared.Reading.{Reading}
 use Rattle.dayfile.specs.declared.Reading.the-variants.{Found, End, Refused}
 use Rattle.unbounded.specs.declared.Process.{Process}
-use Rattle.admission.specs.Requests.{pageAfter}
+use Rattle.requests.specs.Requests.{pageAfter}
 use Rattle.memory.specs.Tables.{outcomeOf}
 use Rattle.memory.proofs.Types.{a-process, a-day, a-request, an-outcome}
 use Rattle.days.specs.Asking.{isNone, requestOf, unaskedOf, steppedBy, askedOutcome, askedTable, askedPage}

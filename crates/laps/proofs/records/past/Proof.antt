@@ -12,7 +12,7 @@ use Rattle.dayfile.specs.declared.Reading.{Reading}
 use Rattle.dayfile.specs.declared.Reading.the-variants.{Found, End, Refused}
 use Rattle.daytext.specs.Buffer.{laidPlace}
 use Rattle.laps.specs.declared.records.Progress.{Progress}
-use Rattle.laps.specs.Printed.{lineOf, isEnd}
+use Rattle.daylines.specs.Printed.{lineOf, isEnd}
 use Rattle.laps.specs.Progress.{closedProgress, progressPast}
 use borrow.Author.Needs.{needs}
 use Rattle.laps.proofs.records.past.Statement.{statement}

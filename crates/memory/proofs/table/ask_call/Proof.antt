@@ -5,15 +5,15 @@ use lib.Dec.{T}
 use Rattle.walks.proofs.Walking.{ !, Param, value, shared, lent, a-usize, a-bool, thin, _▹_, begins-lent, lends-again, gets}
 use Rattle.walks.proofs.Walking.{calls-shared, if-leaves}
 use Rattle.walks.proofs.Walking.{calls-lent, ends-lent, callee, asks-nothing, given, two-given, two-said, id⊢}
-use Rattle.admission.specs.Requests.{itemOf, isCall}
+use Rattle.requests.specs.Requests.{itemOf, isCall}
 use Rattle.admission.specs.Checks.{asOption, isRefusal}
 use Rattle.admission.specs.Outcomes.{refusedOutcome}
 use Rattle.admission.proofs.Checked.{passed-none}
 use Rattle.memory.specs.Tables.{stateOf, outcomeOf, acceptedIn, RefusedBy}
 use Rattle.memory.proofs.Types.{a-process, a-check, a-day, a-request, an-outcome}
 use Rattle.memory.proofs.Accepted.{call-item, stepped-refused, stepped-accepted}
-use Rattle.admission.proofs.requests.no_words as no-words
-use Rattle.admission.proofs.requests.no_words.Met as no-words-met
+use Rattle.requests.proofs.no_words as no-words
+use Rattle.requests.proofs.no_words.Met as no-words-met
 use Rattle.memory.proofs.table.plan as plan
 use Rattle.memory.proofs.table.plan.Met as plan-met
 use Rattle.admission.proofs.checks.is_refused as is-refused
@@ -34,7 +34,7 @@ pub ask-call-spec : {M : Type 1} → stated.statement M
 unfolding code.routine
 ask-call-spec 𝓤 H 𝓜 𝓖 𝓡 =
     let c = f.clauses 𝓤 H (𝓖 .A) (𝓜 .mem) (𝓡 .run) in
-    let no-words-is = callee 𝓤 H 𝓜 𝓖 𝓡 code.env [] a-usize code.calls-admission·requests·no-words
+    let no-words-is = callee 𝓤 H 𝓜 𝓖 𝓡 code.env [] a-usize code.calls-requests·no-words
     (no-words.clauses 𝓤 H (𝓖 .A) (𝓜 .mem) (𝓡 .run)) (λ κs a. tt) (no-words-met.met 𝓤 H 𝓜 𝓖 𝓡) in
     let plan-is = callee 𝓤 H 𝓜 𝓖 𝓡 code.env (value a-day ∷ shared 0 tt a-process ∷ value a-request ∷ value a-usize ∷ []) a-check
     code.calls-memory·table·plan

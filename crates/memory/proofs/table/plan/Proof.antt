@@ -10,7 +10,7 @@ use Rattle.walks.proofs.Walking.{calls-passed-is, counts, copies, if-leaves, en
 use Rattle.snapshot.specs.Requests.{numberIn}
 use Rattle.unbounded.specs.Processes.{noProcess, isIdle}
 use Rattle.unbounded_tasks.specs.Surveys.{surveyOf, surveyedBy}
-use Rattle.admission.specs.Requests.{isOpening}
+use Rattle.requests.specs.Requests.{isOpening}
 use Rattle.admission.specs.Checks.{asOption, isRefusal, firstRefusal, lastRefusal}
 use Rattle.admission.proofs.Checked.{passed-none}
 use Rattle.memory.proofs.Types.{a-process, a-survey, a-check, a-day, a-request}
@@ -23,8 +23,8 @@ use Rattle.admission.proofs.checks.first_check as first
 use Rattle.admission.proofs.checks.first_check.Met as first-met
 use Rattle.admission.proofs.checks.is_refused as is-refused
 use Rattle.admission.proofs.checks.is_refused.Met as is-refused-met
-use Rattle.admission.proofs.requests.index_in as index
-use Rattle.admission.proofs.requests.index_in.Met as index-met
+use Rattle.requests.proofs.index_in as index
+use Rattle.requests.proofs.index_in.Met as index-met
 use Rattle.memory.proofs.elements.rests_at as rests
 use Rattle.memory.proofs.elements.rests_at.Met as rests-met
 use Rattle.admission.proofs.checks.last_check as last
@@ -51,7 +51,7 @@ plan-spec 𝓤 H 𝓜 𝓖 𝓡 =
     (first.clauses 𝓤 H (𝓖 .A) (𝓜 .mem) (𝓡 .run)) (λ κs a. tt) (first-met.met 𝓤 H 𝓜 𝓖 𝓡) in
     let is-refused-is = callee 𝓤 H 𝓜 𝓖 𝓡 code.env (value a-check ∷ []) a-bool code.calls-admission·checks·is-refused
     (is-refused.clauses 𝓤 H (𝓖 .A) (𝓜 .mem) (𝓡 .run)) (λ κs a. tt) (is-refused-met.met 𝓤 H 𝓜 𝓖 𝓡) in
-    let index-is = callee 𝓤 H 𝓜 𝓖 𝓡 code.env (value a-request ∷ []) a-usize code.calls-admission·requests·index-in
+    let index-is = callee 𝓤 H 𝓜 𝓖 𝓡 code.env (value a-request ∷ []) a-usize code.calls-requests·index-in
     (index.clauses 𝓤 H (𝓖 .A) (𝓜 .mem) (𝓡 .run)) (λ κs a. tt) (index-met.met 𝓤 H 𝓜 𝓖 𝓡) in
     let rests-is = callee 𝓤 H 𝓜 𝓖 𝓡 code.env (shared 0 tt a-process ∷ value a-usize ∷ []) a-bool
     code.calls-memory·elements·rests-at

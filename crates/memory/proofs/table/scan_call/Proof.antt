@@ -8,8 +8,8 @@ use Rattle.snapshot.specs.declared.Request.the-variants.{Scan}
 use Rattle.unbounded.specs.Days.{stepped}
 use Rattle.memory.specs.Tables.{stateOf, outcomeOf}
 use Rattle.memory.proofs.Types.{a-process, a-day, a-request, an-outcome}
-use Rattle.admission.proofs.requests.scan as makes
-use Rattle.admission.proofs.requests.scan.Met as makes-met
+use Rattle.requests.proofs.scan as makes
+use Rattle.requests.proofs.scan.Met as makes-met
 use Rattle.memory.proofs.table.ask_call as asks
 use Rattle.memory.proofs.table.ask_call.Met as asks-met
 use Rattle.memory.proofs.table.scan_call.Key.{name as #f}
@@ -24,7 +24,7 @@ pub scan-call-spec : {M : Type 1} → stated.statement M
 unfolding code.routine
 scan-call-spec 𝓤 H 𝓜 𝓖 𝓡 =
     let c = f.clauses 𝓤 H (𝓖 .A) (𝓜 .mem) (𝓡 .run) in
-    let makes-is = callee 𝓤 H 𝓜 𝓖 𝓡 code.env (value a-u32 ∷ []) a-request code.calls-admission·requests·scan
+    let makes-is = callee 𝓤 H 𝓜 𝓖 𝓡 code.env (value a-u32 ∷ []) a-request code.calls-requests·scan
     (makes.clauses 𝓤 H (𝓖 .A) (𝓜 .mem) (𝓡 .run)) (λ κs a. tt) (makes-met.met 𝓤 H 𝓜 𝓖 𝓡) in
     let asks-is = callee 𝓤 H 𝓜 𝓖 𝓡 code.env (value a-day ∷ lent 0 tt a-process ∷ value a-request ∷ []) an-outcome
     code.calls-memory·table·ask-call

@@ -9,7 +9,7 @@ use Rattle.walks.proofs.Walking.{two-said, three-said, id⊢}
 use Rattle.snapshot.specs.Requests.{numberIn}
 use Rattle.snapshot.specs.Days.{openFor}
 use Rattle.unbounded.specs.Days.{stepped}
-use Rattle.admission.specs.Requests.{itemOf, isOpening, isCall}
+use Rattle.requests.specs.Requests.{itemOf, isOpening, isCall}
 use Rattle.admission.specs.Checks.{asOption, isRefusal}
 use Rattle.admission.specs.Outcomes.{refusedOutcome}
 use Rattle.admission.proofs.Checked.{passed-none}
@@ -17,8 +17,8 @@ use Rattle.memory.specs.Tables.{stateOf, outcomeOf, refusalIn, acceptedI
 use Rattle.memory.proofs.Types.{a-process, a-check, a-day, a-request, an-outcome}
 use Rattle.memory.proofs.Accepted.{call-same, opening-item, after-opening, after-call, after-turn, after-refusal}
 use Rattle.memory.proofs.Accepted.{stepped-refused, stepped-accepted}
-use Rattle.admission.proofs.requests.is_opening as is-opening
-use Rattle.admission.proofs.requests.is_opening.Met as is-opening-met
+use Rattle.requests.proofs.is_opening as is-opening
+use Rattle.requests.proofs.is_opening.Met as is-opening-met
 use Rattle.snapshot.proofs.number_in as number
 use Rattle.snapshot.proofs.number_in.Met as number-met
 use Rattle.memory.proofs.table.open as opens
@@ -29,8 +29,8 @@ use Rattle.admission.proofs.checks.is_refused as is-refused
 use Rattle.admission.proofs.checks.is_refused.Met as is-refused-met
 use Rattle.admission.proofs.outcomes.refused as refused
 use Rattle.admission.proofs.outcomes.refused.Met as refused-met
-use Rattle.admission.proofs.requests.is_call as is-call
-use Rattle.admission.proofs.requests.is_call.Met as is-call-met
+use Rattle.requests.proofs.is_call as is-call
+use Rattle.requests.proofs.is_call.Met as is-call-met
 use Rattle.memory.proofs.table.call as calls
 use Rattle.memory.proofs.table.call.Met as calls-met
 use Rattle.memory.proofs.table.turn_on as turns
@@ -47,7 +47,7 @@ pub step-spec : {M : Type 1} → stated.statement M
 unfolding code.routine
 step-spec 𝓤 H 𝓜 𝓖 𝓡 =
     let c = f.clauses 𝓤 H (𝓖 .A) (𝓜 .mem) (𝓡 .run) in
-    let is-opening-is = callee 𝓤 H 𝓜 𝓖 𝓡 code.env (value a-request ∷ []) a-bool code.calls-admission·requests·is-opening
+    let is-opening-is = callee 𝓤 H 𝓜 𝓖 𝓡 code.env (value a-request ∷ []) a-bool code.calls-requests·is-opening
     (is-opening.clauses 𝓤 H (𝓖 .A) (𝓜 .mem) (𝓡 .run)) (λ κs a. tt) (is-opening-met.met 𝓤 H 𝓜 𝓖 𝓡) in
     let number-is = callee 𝓤 H 𝓜 𝓖 𝓡 code.env (value a-request ∷ []) a-u32 code.calls-snapshot·number-in
     (number.clauses 𝓤 H (𝓖 .A) (𝓜 .mem) (𝓡 .run)) (λ κs a. tt) (number-met.met 𝓤 H 𝓜 𝓖 𝓡) in
@@ -61,7 +61,7 @@ step-spec 𝓤 H 𝓜 𝓖 𝓡 =
     (is-refused.clauses 𝓤 H (𝓖 .A) (𝓜 .mem) (𝓡 .run)) (λ κs a. tt) (is-refused-met.met 𝓤 H 𝓜 𝓖 𝓡) in
     let refused-is = callee 𝓤 H 𝓜 𝓖 𝓡 code.env (value a-day ∷ value a-check ∷ []) an-outcome code.calls-admission·outcomes·refused
     (refused.clauses 𝓤 H (𝓖 .A) (𝓜 .mem) (𝓡 .run)) (λ κs a. tt) (refused-met.met 𝓤 H 𝓜 𝓖 𝓡) in
-    let is-call-is = callee 𝓤 H 𝓜 𝓖 𝓡 code.env (value a-request ∷ []) a-bool code.calls-admission·requests·is-call
+    let is-call-is = callee 𝓤 H 𝓜 𝓖 𝓡 code.env (value a-request ∷ []) a-bool code.calls-requests·is-call
     (is-call.clauses 𝓤 H (𝓖 .A) (𝓜 .mem) (𝓡 .run)) (λ κs a. tt) (is-call-met.met 𝓤 H 𝓜 𝓖 𝓡) in
     let calls-is = callee 𝓤 H 𝓜 𝓖 𝓡 code.env (value a-day ∷ lent 0 tt a-process ∷ value a-request ∷ []) an-outcome
     code.calls-memory·table·call

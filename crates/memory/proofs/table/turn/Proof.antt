@@ -8,8 +8,8 @@ use Rattle.snapshot.specs.declared.Request.the-variants.{Turn}
 use Rattle.unbounded.specs.Days.{stepped}
 use Rattle.memory.specs.Tables.{stateOf, outcomeOf}
 use Rattle.memory.proofs.Types.{a-process, a-day, a-request, an-outcome}
-use Rattle.admission.proofs.requests.turn as makes
-use Rattle.admission.proofs.requests.turn.Met as makes-met
+use Rattle.requests.proofs.turn as makes
+use Rattle.requests.proofs.turn.Met as makes-met
 use Rattle.memory.proofs.table.step as steps
 use Rattle.memory.proofs.table.step.Met as steps-met
 use Rattle.memory.proofs.table.turn.Key.{name as #f}
@@ -24,7 +24,7 @@ pub turn-spec : {M : Type 1} → stated.statement M
 unfolding code.routine
 turn-spec 𝓤 H 𝓜 𝓖 𝓡 =
     let c = f.clauses 𝓤 H (𝓖 .A) (𝓜 .mem) (𝓡 .run) in
-    let makes-is = callee 𝓤 H 𝓜 𝓖 𝓡 code.env (value a-u32 ∷ []) a-request code.calls-admission·requests·turn
+    let makes-is = callee 𝓤 H 𝓜 𝓖 𝓡 code.env (value a-u32 ∷ []) a-request code.calls-requests·turn
     (makes.clauses 𝓤 H (𝓖 .A) (𝓜 .mem) (𝓡 .run)) (λ κs a. tt) (makes-met.met 𝓤 H 𝓜 𝓖 𝓡) in
     let steps-is = callee 𝓤 H 𝓜 𝓖 𝓡 code.env (value a-day ∷ lent 0 tt a-process ∷ value a-request ∷ lent 1 tt a-u32 ∷ [])
     an-outcome code.calls-memory·table·step

@@ -18,14 +18,14 @@ use Rattle.unbounded_tasks.specs.Accesses.{isReady, accessOf}
 use Rattle.unbounded_finds.specs.Finds.{nothingFound, pageBy}
 use Rattle.unbounded_turns.specs.Steps.{stateBy}
 use Rattle.unbounded_tasks.specs.Tasks.{answerBy}
-use Rattle.admission.specs.Requests.{itemOf, isOpening, isCall}
+use Rattle.requests.specs.Requests.{itemOf, isOpening, isCall}
 use Rattle.admission.specs.Outcomes.{acceptedOutcome}
 use Rattle.memory.specs.Tables.{stateOf, refusalIn}
 use Rattle.memory.specs.Turning.{readAt, foundAt}
 use Rattle.memory.proofs.Types.{a-process, a-task, a-day, a-request, an-outcome}
 use Rattle.memory.proofs.Accepted.{admits, turn-at, page-fits, write-leaves, read-leaves}
-use Rattle.admission.proofs.requests.index_in as index
-use Rattle.admission.proofs.requests.index_in.Met as index-met
+use Rattle.requests.proofs.index_in as index
+use Rattle.requests.proofs.index_in.Met as index-met
 use Rattle.memory.proofs.elements.task_at as task
 use Rattle.memory.proofs.elements.task_at.Met as task-met
 use Rattle.unbounded_tasks.proofs.accesses.is_ready as is-ready
@@ -46,7 +46,7 @@ pub turn-on-spec : {M : Type 1} → stated.statement M
 unfolding code.routine
 turn-on-spec 𝓤 H 𝓜 𝓖 𝓡 =
     let c = f.clauses 𝓤 H (𝓖 .A) (𝓜 .mem) (𝓡 .run) in
-    let index-is = callee 𝓤 H 𝓜 𝓖 𝓡 code.env (value a-request ∷ []) a-usize code.calls-admission·requests·index-in
+    let index-is = callee 𝓤 H 𝓜 𝓖 𝓡 code.env (value a-request ∷ []) a-usize code.calls-requests·index-in
     (index.clauses 𝓤 H (𝓖 .A) (𝓜 .mem) (𝓡 .run)) (λ κs a. tt) (index-met.met 𝓤 H 𝓜 𝓖 𝓡) in
     let task-is = callee 𝓤 H 𝓜 𝓖 𝓡 code.env (shared 0 tt a-process ∷ value a-usize ∷ []) a-task code.calls-memory·elements·task-at
     (task.clauses 𝓤 H (𝓖 .A) (𝓜 .mem) (𝓡 .run)) (λ κs a. tt) (task-met.met 𝓤 H 𝓜 𝓖 𝓡) in

@@ -8,8 +8,8 @@ use Rattle.snapshot.specs.declared.Request.the-variants.{Update}
 use Rattle.unbounded.specs.Days.{stepped}
 use Rattle.memory.specs.Tables.{stateOf, outcomeOf}
 use Rattle.memory.proofs.Types.{a-process, a-day, a-request, an-outcome}
-use Rattle.admission.proofs.requests.update as makes
-use Rattle.admission.proofs.requests.update.Met as makes-met
+use Rattle.requests.proofs.update as makes
+use Rattle.requests.proofs.update.Met as makes-met
 use Rattle.memory.proofs.table.ask_call as asks
 use Rattle.memory.proofs.table.ask_call.Met as asks-met
 use Rattle.memory.proofs.table.update_call.Key.{name as #f}
@@ -24,7 +24,7 @@ pub update-call-spec : {M : Type 1} → stated.statement M
 unfolding code.routine
 update-call-spec 𝓤 H 𝓜 𝓖 𝓡 =
     let c = f.clauses 𝓤 H (𝓖 .A) (𝓜 .mem) (𝓡 .run) in
-    let makes-is = callee 𝓤 H 𝓜 𝓖 𝓡 code.env (value a-u32 ∷ value a-u32 ∷ []) a-request code.calls-admission·requests·update
+    let makes-is = callee 𝓤 H 𝓜 𝓖 𝓡 code.env (value a-u32 ∷ value a-u32 ∷ []) a-request code.calls-requests·update
     (makes.clauses 𝓤 H (𝓖 .A) (𝓜 .mem) (𝓡 .run)) (λ κs a. tt) (makes-met.met 𝓤 H 𝓜 𝓖 𝓡) in
     let asks-is = callee 𝓤 H 𝓜 𝓖 𝓡 code.env (value a-day ∷ lent 0 tt a-process ∷ value a-request ∷ []) an-outcome
     code.calls-memory·table·ask-call

@@ -1,9 +1,9 @@
--- `laps::printed::call_line` meets its contract.
+-- `daylines::call_line` meets its contract.
 use mathlib.Core.Path.{sym, ap}
-use Rattle.laps.specs.Printed.{callLine}
+use Rattle.daylines.specs.Printed.{callLine}
 use borrow.Author.Needs.{needs}
-use Rattle.laps.proofs.printed.call_line.Statement.{statement}
-use Rattle.laps.proofs.printed.call_line.Tie as tie
+use Rattle.daylines.proofs.call_line.Statement.{statement}
+use Rattle.daylines.proofs.call_line.Tie as tie
 
 enum-known-x : tie.Need-enum-known-x
 enum-known-x c = search needs

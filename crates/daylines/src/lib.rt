@@ -9,7 +9,7 @@ ghost use mathlib.Core.List.{List};
 ghost use Prim.Native.Nat.{ℕ, _≤_};
 ghost use lib.ListN.{length, take};
 ghost use Rattle.daytext.specs.Buffer.{laidPlace, laidText};
-ghost use Rattle.laps.specs.Printed.{callLine, answerLine, lineOf, isEnd};
+ghost use Rattle.daylines.specs.Printed.{callLine, answerLine, lineOf, isEnd};
 
 // The line of a call that was accepted with the given event number.
 fn call_line(x: Request, event: u32) -> Line

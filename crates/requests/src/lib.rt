@@ -4,7 +4,7 @@ use snapshot::Request;
 ghost use Prim.Native.Nat.{_-_, _<_};
 ghost use mathlib.Core.Path.{_≡_};
 ghost use Rattle.snapshot.specs.Requests.{numberIn};
-ghost use Rattle.admission.specs.Requests.{isOpening, isCall};
+ghost use Rattle.requests.specs.Requests.{isOpening, isCall};
 
 // Whether a request opens a day, and whether it is a call.
 pub fn is_opening(x: Request) -> bool

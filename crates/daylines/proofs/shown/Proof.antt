@@ -1,10 +1,10 @@
--- `laps::printed::shown` meets its contract: a list has no more to show than it has.
+-- `daylines::shown` meets its contract: a list has no more to show than it has.
 use mathlib.Core.Path.{sym, _∙_}
 use native.Mathlib.Omega.{arith}
 use lib.Seq.{take-all}
 use borrow.Author.Needs.{needs}
-use Rattle.laps.proofs.printed.shown.Statement.{statement}
-use Rattle.laps.proofs.printed.shown.Tie as tie
+use Rattle.daylines.proofs.shown.Statement.{statement}
+use Rattle.daylines.proofs.shown.Tie as tie
 
 returns : tie.Need-returns
 returns c =

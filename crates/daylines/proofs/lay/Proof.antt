@@ -1,12 +1,12 @@
--- `laps::printed::lay` meets its contract.
+-- `daylines::lay` meets its contract.
 use mathlib.Core.Path.{refl, sym, ap, _∙_}
 use lib.ListN.{take}
 use lib.Seq.{length-take-le}
 use Rattle.daytext.specs.Buffer.{laidPlace, laidText}
-use Rattle.laps.specs.Printed.{lineOf}
+use Rattle.daylines.specs.Printed.{lineOf}
 use borrow.Author.Needs.{needs}
-use Rattle.laps.proofs.printed.lay.Statement.{statement}
-use Rattle.laps.proofs.printed.lay.Tie as tie
+use Rattle.daylines.proofs.lay.Statement.{statement}
+use Rattle.daylines.proofs.lay.Tie as tie
 
 shown-requires : tie.Need-shown-requires
 shown-requires c κs = search needs

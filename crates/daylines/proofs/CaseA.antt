@@ -21,7 +21,7 @@ use Rattle.days.specs.Happenings.{dayOf}
 use Rattle.texts.specs.Ascii.{ascii}
 use Rattle.texts.specs.Decimal.{decimal}
 use Rattle.daytext.specs.Lines.{bodyOf, textOf}
-use Rattle.laps.specs.Printed.{printout, printed, printedUntil}
+use Rattle.daylines.specs.Printed.{printout, printed, printedUntil}
 
 -- "records open 1; entry call 1, word 7; turn 1 three times; page call 1; turn 1 three times"
 abbrev caseA : List ℕ

@@ -1,10 +1,10 @@
--- `laps::printed::line_of` meets its contract.
+-- `daylines::line_of` meets its contract.
 use mathlib.Core.Path.{sym, ap, _∙_}
 use Rattle.daytext.specs.declared.Line.the-variants as Printed
-use Rattle.laps.specs.Printed.{lineOf}
+use Rattle.daylines.specs.Printed.{lineOf}
 use borrow.Author.Needs.{needs}
-use Rattle.laps.proofs.printed.line_of.Statement.{statement}
-use Rattle.laps.proofs.printed.line_of.Tie as tie
+use Rattle.daylines.proofs.line_of.Statement.{statement}
+use Rattle.daylines.proofs.line_of.Tie as tie
 
 enum-known-x : tie.Need-enum-known-x
 enum-known-x c = search needs

@@ -1,10 +1,10 @@
--- `laps::printed::answer_line` meets its contract.
+-- `daylines::answer_line` meets its contract.
 use mathlib.Core.Path.{sym, ap, _∙_}
 use Rattle.daytext.specs.declared.Line.the-variants as Printed
-use Rattle.laps.specs.Printed.{answerLine}
+use Rattle.daylines.specs.Printed.{answerLine}
 use borrow.Author.Needs.{needs}
-use Rattle.laps.proofs.printed.answer_line.Statement.{statement}
-use Rattle.laps.proofs.printed.answer_line.Tie as tie
+use Rattle.daylines.proofs.answer_line.Statement.{statement}
+use Rattle.daylines.proofs.answer_line.Tie as tie
 
 number-in-requires : tie.Need-number-in-requires
 number-in-requires c κs = search needs

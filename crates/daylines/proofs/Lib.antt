@@ -1,0 +1,2 @@
+-- Case A, from its bytes to its text.
+pub mod CaseA

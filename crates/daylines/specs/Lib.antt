@@ -1,0 +1,2 @@
+-- What is printed of a day file.
+pub mod Printed

@@ -1,0 +1,2 @@
+-- Requests beside which a page list is lent.
+pub mod Requests
