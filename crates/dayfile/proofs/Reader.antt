@@ -57,6 +57,13 @@ module _ (bs : List ℕ) where
       let end : next ≡ 2 + lengthIn bs = is .2 in
       (omega arith, omega arith)
 
+  pub found-short : (r : Request) (next : ℕ) → reading bs ≡ Found r next → next ≤ 10
+  found-short r next q =
+      let is = found-is r next q in
+      let short = ltb-false 8 (lengthIn bs) (neither (ltb (lengthIn bs) 4) (ltb 8 (lengthIn bs)) (is .0 .1 .0) .1) in
+      let end : next ≡ 2 + lengthIn bs = is .2 in
+      omega (arith, short, end)
+
   -- where there is a refusal, there are bytes
   pub refused-some : (k : Refusal) → reading bs ≡ Refused k → 0 < length bs
   unfolding reading

@@ -6,8 +6,8 @@ use unbounded::Task;
 use unbounded::most_reads;
 ghost use mathlib.Core.Path.{_≡_};
 ghost use mathlib.Core.Bool.{_||_};
-ghost use Rattle.unbounded.specs.Days.{overdue, unsound};
-ghost use Rattle.unbounded_tasks.specs.Surveys.{surveyOf, surveyedBy};
+ghost use Rattle.unbounded.specs.Days.{overdue, unsoundParts};
+ghost use Rattle.unbounded_tasks.specs.Surveys.{surveyOf, seenBy, surveyedBy};
 
 // What is found before any record is looked at.
 pub fn survey_of(day: Day) -> Survey
@@ -24,20 +24,25 @@ pub fn survey_of(day: Day) -> Survey
 pub fn surveyed(s: Survey, p: Process) -> Survey
     ensures { λ t. ⌜ t ≡ surveyedBy s p ⌝ }
 {
+    let k = p.task;
+    seen(s, k, p.register.seq, p.register.at)
+}
+
+// The same, by the parts of a record that are looked at.
+pub fn seen(s: Survey, k: Task, seq: u32, at: u32) -> Survey
+    ensures { λ t. ⌜ t ≡ seenBy s k seq at ⌝ }
+{
     Survey {
         most: s.most,
         event: s.event,
-        bad: bad_after(s, p),
+        bad: bad_after(s, k, seq, at),
     }
 }
 
-// Whether a record before this one was bad, or this one cannot have arisen.
-fn bad_after(s: Survey, p: Process) -> bool
-    ensures { λ b. ⌜ b ≡ (s .bad || unsound (s .most) (s .event) p) ⌝ }
+// Whether a record before this one was bad, or one with these parts cannot have arisen.
+fn bad_after(s: Survey, k: Task, seq: u32, at: u32) -> bool
+    ensures { λ b. ⌜ b ≡ (s .bad || unsoundParts (s .most) (s .event) k seq at) ⌝ }
 {
-    let k = p.task;
-    let seq = p.register.seq;
-    let at = p.register.at;
     if s.bad {
         return true;
     }

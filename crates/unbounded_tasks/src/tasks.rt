@@ -6,7 +6,7 @@ use unbounded::Task;
 ghost use mathlib.Core.Path.{_≡_};
 ghost use Prim.Native.Nat.{_<_};
 ghost use Rattle.unbounded.specs.declared.Task.the-variants.{Idle};
-ghost use Rattle.unbounded.specs.Processes.{turnsOf};
+ghost use Rattle.unbounded.specs.Processes.{isIdle, turnsOf};
 ghost use Rattle.unbounded_tasks.specs.Tasks.{taskFor, keepsBy, endsBy, taskBy, answerBy};
 
 // The task that a call sets.
@@ -26,6 +26,22 @@ pub fn idle() -> Task
     ensures { λ k. ⌜ k ≡ Idle ⌝ }
 {
     Task::Idle
+}
+
+// Whether it is none.
+pub fn is_idle(k: Task) -> bool
+    ensures { λ b. ⌜ b ≡ isIdle k ⌝ }
+{
+    match k {
+        Task::Idle => true,
+        Task::Scan { turns: _ } => false,
+        Task::Update { word: _, turns: _ } => false,
+        Task::Ready {
+            word: _,
+            at: _,
+            turns: _,
+        } => false,
+    }
 }
 
 // Whether a task keeps the page that a turn found: an update does.

@@ -50,16 +50,7 @@ pub fn rests(p: Process) -> bool
     ensures { λ b. ⌜ b ≡ isIdle (p .task) ⌝ }
 {
     let k = p.task;
-    match k {
-        Task::Idle => true,
-        Task::Scan { turns: _ } => false,
-        Task::Update { word: _, turns: _ } => false,
-        Task::Ready {
-            word: _,
-            at: _,
-            turns: _,
-        } => false,
-    }
+    tasks::is_idle(k)
 }
 
 // The record with nothing collected, as a call begins a task and the end of one leaves it.

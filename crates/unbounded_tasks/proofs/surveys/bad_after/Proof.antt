@@ -1,6 +1,5 @@
 -- `unbounded_tasks::surveys::bad_after` meets its contract.
 use borrow.Author.Tests.{lt-ltb, le-ltb}
-use Rattle.unbounded.specs.Days.{unsound}
 use borrow.Author.Needs.{needs}
 use Rattle.unbounded_tasks.proofs.surveys.bad_after.Statement.{statement}
 use Rattle.unbounded_tasks.proofs.surveys.bad_after.Tie as tie
@@ -9,11 +8,9 @@ returns : tie.Need-returns
 returns c = search needs
 
 returns-2 : tie.Need-returns-2
-unfolding unsound
 returns-2 c = simp (c .before .before .if1 .left, lt-ltb _ _ (c .if2 .taken))
 
 returns-3 : tie.Need-returns-3
-unfolding unsound
 returns-3 c =
     let good = c .before .before .before .before .if1 .left in
     simp (good, le-ltb _ _ (c .before .before .if2 .left), lt-ltb _ _ (c .if3 .taken))
@@ -22,7 +19,6 @@ is-overdue-requires : tie.Need-is-overdue-requires
 is-overdue-requires c κs = search needs
 
 returns-4 : tie.Need-returns-4
-unfolding unsound
 returns-4 c =
     let good = c .before .before .before .before .before .if1 .left in
     simp (good, le-ltb _ _ (c .before .before .before .if2 .left), le-ltb _ _ (c .before .if3 .left)) (c .is-overdue .ensures)
