@@ -1,0 +1,94 @@
+-- A process record as 208 words: its register, its task, its two collects, the end of the first, its view and its marks, one after
+-- the other.
+use Prim.Native.Nat.{ℕ, zero, suc}
+use mathlib.Core.Bool.{Bool, cond, not}
+use mathlib.Core.List.{List, [], _∷_, _++_, map}
+use lib.ListN.{getD, drop}
+use lib.Dec.{eqb}
+use Rattle.unbounded.specs.declared.Register.{Register}
+use Rattle.unbounded.specs.declared.Process.{Process}
+use Rattle.unbounded.specs.declared.Task.{Task}
+use Rattle.unbounded.specs.declared.Task.the-variants.{Idle, Scan, Update, Ready}
+
+-- ---- packing
+
+-- parts, one after the other
+abbrev pub chained : List (List ℕ) → List ℕ
+chained [] = []
+chained (ws ∷ parts) = ws ++ chained parts
+
+-- a register: its word, its seq, the eight words of its view, and its at
+abbrev pub packRegister : Register → List ℕ
+packRegister r = r .word ∷ r .seq ∷ (r .view ++ (r .at ∷ []))
+
+-- a task: its kind, and its word, at and turns, 0 where it has none
+abbrev pub packTask : Task → List ℕ
+packTask Idle = 0 ∷ 0 ∷ 0 ∷ 0 ∷ []
+packTask (Scan t) = 1 ∷ 0 ∷ 0 ∷ t ∷ []
+packTask (Update w t) = 2 ∷ w ∷ 0 ∷ t ∷ []
+packTask (Ready w at t) = 3 ∷ w ∷ at ∷ t ∷ []
+
+abbrev pub packCollect : List Register → List ℕ
+packCollect rs = chained (map packRegister rs)
+
+-- a mark: 1, and 0 where there is none
+abbrev pub packMark : Bool → ℕ
+packMark m = cond m 1 0
+
+unfoldable pub packRecord : Process → List ℕ
+packRecord p =
+    chained
+    (packRegister (p .register)
+    ∷ packTask (p .task)
+    ∷ packCollect (p .first)
+    ∷ packCollect (p .second)
+    ∷ (p .«first_end» ∷ [])
+    ∷ p .view
+    ∷ map packMark (p .moved)
+    ∷ [])
+
+-- ---- unpacking: what the words from the front on are
+
+abbrev pub wordAt : List ℕ → ℕ → ℕ
+wordAt ws i = getD ws i 0
+
+-- so many
+abbrev pub words : ℕ → List ℕ → List ℕ
+words zero ws = []
+words (suc k) ws = wordAt ws 0 ∷ words k (drop 1 ws)
+
+abbrev pub unpackRegister : List ℕ → Register
+unpackRegister ws = record { word = wordAt ws 0; seq = wordAt ws 1; view = words 8 (drop 2 ws); at = wordAt ws 10 }
+
+-- a kind that is none is taken for a scan that has had more turns than any: its record cannot have arisen (11)
+abbrev pub taskOfKind : (kind word at turns : ℕ) → Task
+taskOfKind kind w at t =
+    cond (eqb kind 0) Idle
+    (cond (eqb kind 1) (Scan t)
+    (cond (eqb kind 2) (Update w t)
+    (cond (eqb kind 3) (Ready w at t)
+    (Scan 4294967295))))
+
+abbrev pub unpackTask : List ℕ → Task
+unpackTask ws = taskOfKind (wordAt ws 0) (wordAt ws 1) (wordAt ws 2) (wordAt ws 3)
+
+-- so many registers
+abbrev pub unpackCollect : ℕ → List ℕ → List Register
+unpackCollect zero ws = []
+unpackCollect (suc k) ws = unpackRegister ws ∷ unpackCollect k (drop 11 ws)
+
+-- any number but 0 is a mark
+abbrev pub unpackMark : ℕ → Bool
+unpackMark w = not (eqb w 0)
+
+unfoldable pub unpackRecord : List ℕ → Process
+unpackRecord ws =
+    record {
+      register = unpackRegister ws;
+      task = unpackTask (drop 11 ws);
+      first = unpackCollect 8 (drop 15 ws);
+      second = unpackCollect 8 (drop 103 ws);
+      «first_end» = wordAt ws 191;
+      view = words 8 (drop 192 ws);
+      moved = map unpackMark (words 8 (drop 200 ws));
+    }
