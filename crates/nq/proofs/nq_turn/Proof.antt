@@ -1,0 +1,29 @@
+-- `nq::nq_turn` meets its contract.
+use mathlib.Core.Path.{ap, _∙_}
+use mathlib.Core.List.{[]}
+use Rattle.snapshot.specs.Replies.{replyOf}
+use Rattle.nq.specs.Replies.{replyNumbers}
+use borrow.Author.Needs.{needs}
+use Rattle.nq.proofs.nq_turn.Statement.{statement}
+use Rattle.nq.proofs.nq_turn.Tie as tie
+
+step-requires : tie.Need-step-requires
+step-requires c κs = search needs
+
+reply-of-requires : tie.Need-reply-of-requires
+reply-of-requires c κs = search needs
+
+same-length : tie.Need-same-length
+same-length c = search needs
+
+same-length-2 : tie.Need-same-length-2
+same-length-2 c = search needs
+
+returns : tie.Need-returns
+returns c =
+    let said = c .before .before .before .before .step .ensures in
+    (c .reply-of .ensures ∙ ap (λ o. replyNumbers (o .day) (replyOf [] (o .answer))) (said .0), said .1)
+
+pub nq-turn-spec : {M : Type 1} → statement M
+nq-turn-spec =
+    tie.close (tie.spec step-requires reply-of-requires same-length same-length-2 returns)

@@ -1,0 +1,51 @@
+-- Answers as numbers: the paper's number and values of each case (`replyOf`, `readerReply`), each in its place, and 0 where a case has
+-- none.
+use Prim.Native.Nat.{ℕ, _≤_}
+use Rattle.snapshot.specs.Replies.{Reply, refused, opened, called, read, page, written}
+use Rattle.snapshot.specs.declared.Day.{Day}
+use Rattle.snapshot.specs.declared.Request.{Request}
+use Rattle.snapshot.specs.declared.Request.the-variants.{Open, Update, Scan, Turn}
+use Rattle.dayfile.specs.declared.Reading.{Reading}
+use Rattle.dayfile.specs.declared.Reading.the-variants.{Found, End, Refused}
+use Rattle.dayfile.specs.Reader as Reader
+use Rattle.dayfile.specs.Reader.{ReaderReply, found, ended}
+use Rattle.nq.specs.declared.ReplyNumbers.{ReplyNumbers}
+use Rattle.nq.specs.declared.RecordNumbers.{RecordNumbers}
+
+-- the day that two numbers are
+abbrev pub dayOf : (count event : ℕ) → Day
+dayOf count event = record { count = count; event = event }
+
+-- a reply, and the day after it
+abbrev pub replyWith : Day → (kind refusal lender at turns : ℕ) → ReplyNumbers
+replyWith d k refusal l at t =
+    record { count = d .count; event = d .event; kind = k; refusal = refusal; lender = l; at = at; turns = t }
+
+abbrev pub replyNumbers : Day → Reply ℕ → ReplyNumbers
+replyNumbers d (refused k) = replyWith d 0 k 0 0 0
+replyNumbers d opened = replyWith d 1 0 0 0 0
+replyNumbers d called = replyWith d 2 0 0 0 0
+replyNumbers d read = replyWith d 3 0 0 0 0
+replyNumbers d (page lender at turns ws) = replyWith d 4 0 lender at turns
+replyNumbers d (written turns) = replyWith d 5 0 0 0 turns
+
+-- a record of a day file, by its kind there, and how many bytes it takes
+abbrev pub recordWith : (refusal kind process word next : ℕ) → RecordNumbers
+recordWith refusal k d w next = record { refusal = refusal; kind = k; process = d; word = w; next = next }
+
+abbrev pub requestNumbers : Request → ℕ → RecordNumbers
+requestNumbers (Open count) next = recordWith 0 1 count 0 next
+requestNumbers (Update d w) next = recordWith 0 2 d w next
+requestNumbers (Scan d) next = recordWith 0 3 d 0 next
+requestNumbers (Turn d) next = recordWith 0 4 d 0 next
+
+abbrev pub recordNumbers : ReaderReply → RecordNumbers
+recordNumbers (found x bytes) = requestNumbers x bytes
+recordNumbers ended = recordWith 0 0 0 0 0
+recordNumbers (Reader.refused k) = recordWith k 0 0 0 0
+
+-- a record that takes ten bytes at most, as every record of a day file does
+abbrev pub Short : Reading → Type 0
+Short (Found x next) = next ≤ 10
+Short End = Unit {0}
+Short (Refused k) = Unit {0}

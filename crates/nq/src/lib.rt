@@ -1,0 +1,250 @@
+// The register by numbers, for programs in C and Rust: a table of packed records, a request and its reply, and the reader of day
+// files. bindings/c/nelvaquist.h says what a caller has to hold to.
+use dayfile::Reading;
+use packed::table;
+use snapshot::Answer;
+use snapshot::Day;
+use snapshot::Outcome;
+use snapshot::Refusal;
+use snapshot::Request;
+ghost use mathlib.Core.Path.{_≡_};
+ghost use mathlib.Core.List.{[]};
+ghost use Rattle.snapshot.specs.Replies.{replyOf};
+ghost use Rattle.snapshot.specs.declared.Request.the-variants.{Open, Update, Scan, Turn};
+ghost use Rattle.dayfile.specs.Reader.{reading, readerReply};
+ghost use Rattle.packed.specs.Tables.{tableAfter, steppedIn};
+ghost use Rattle.nq.specs.Replies.{dayOf, replyWith, replyNumbers, Short, recordWith, requestNumbers, recordNumbers};
+ghost use Rattle.nq.specs.Requests.{requestOf, isKind, replyTo, replyIn, tableIn, pageIn};
+
+// The day after a request, the kind of its answer (0 refused, 1 opened, 2 called, 3 read, 4 page, 5 written), the number of the
+// refusal, the lender and the instant of a page, and the turns of a task.
+#[repr(C)]
+pub struct ReplyNumbers {
+    pub count: u32,
+    pub event: u32,
+    pub kind: u32,
+    pub refusal: u32,
+    pub lender: u32,
+    pub at: u32,
+    pub turns: u32,
+}
+
+// A record of a day file: its kind there, its numbers, and how many bytes it takes; or the number of a refusal.
+#[repr(C)]
+pub struct RecordNumbers {
+    pub refusal: u32,
+    pub kind: u32,
+    pub process: u32,
+    pub word: u32,
+    pub next: u32,
+}
+
+fn reply(day: Day, kind: u32, refusal: u32, lender: u32, at: u32, turns: u32) -> ReplyNumbers
+    ensures { λ r. ⌜ r ≡ replyWith day kind refusal lender at turns ⌝ }
+{
+    ReplyNumbers {
+        count: day.count,
+        event: day.event,
+        kind,
+        refusal,
+        lender,
+        at,
+        turns,
+    }
+}
+
+fn reply_of(o: Outcome) -> ReplyNumbers
+    ensures { λ r. ⌜ r ≡ replyNumbers (o .day) (replyOf [] (o .answer)) ⌝ }
+{
+    let day = o.day;
+    let answer = o.answer;
+    match answer {
+        Answer::Refused(k) => reply(day, 0, snapshot::number(k), 0, 0, 0),
+        Answer::Opened => reply(day, 1, 0, 0, 0, 0),
+        Answer::Called => reply(day, 2, 0, 0, 0, 0),
+        Answer::Read => reply(day, 3, 0, 0, 0, 0),
+        Answer::Page { lender, at, turns } => reply(day, 4, 0, lender, at, turns),
+        Answer::Written { turns } => reply(day, 5, 0, 0, 0, turns),
+    }
+}
+
+fn request_of(kind: u32, process: u32, word: u32) -> Request
+    ensures { λ x. ⌜ x ≡ requestOf kind process word ⌝ }
+{
+    if kind == 1 {
+        return Request::Open(process);
+    }
+    if kind == 2 {
+        return Request::Update { process, word };
+    }
+    if kind == 3 {
+        return Request::Scan(process);
+    }
+    Request::Turn(process)
+}
+
+fn is_kind(kind: u32) -> bool
+    ensures { λ b. ⌜ b ≡ isKind kind ⌝ }
+{
+    if kind < 1 {
+        return false;
+    }
+    if 4 < kind {
+        return false;
+    }
+    true
+}
+
+// A request of any kind: 1 an opening, 2 an entry call, 3 a page call, 4 a turn.
+#[no_mangle]
+pub extern "C" fn nq_step(
+    count: u32,
+    event: u32,
+    table: &mut [[u32; 208]],
+    kind: u32,
+    process: u32,
+    word: u32,
+    page: &mut [u32],
+) -> ReplyNumbers
+    ensures { λ r. ⌜ r ≡ replyIn (dayOf count event) (now (table .entry)) kind process word (now (page .entry)) ⌝ }
+    ensures { λ r. ⌜ now (table .exit) ≡
+        tableIn (dayOf count event) (now (table .entry)) kind process word (now (page .entry)) ⌝ }
+    ensures { λ r. ⌜ now (page .exit) ≡
+        pageIn (dayOf count event) (now (table .entry)) kind process word (now (page .entry)) ⌝ }
+{
+    let day = Day { count, event };
+    if is_kind(kind) {
+        return reply_of(table::step(day, table, request_of(kind, process, word), page));
+    }
+    reply(day, 0, snapshot::number(Refusal::UnknownKind), 0, 0, 0)
+}
+
+// An opening for so many processes.
+#[no_mangle]
+pub extern "C" fn nq_open(
+    count: u32,
+    event: u32,
+    table: &mut [[u32; 208]],
+    processes: u32,
+) -> ReplyNumbers
+    ensures { λ r. ⌜ r ≡ replyTo (steppedIn (dayOf count event) (now (table .entry)) (Open processes) []) ⌝ }
+    ensures { λ r. ⌜ now (table .exit) ≡ tableAfter (now (table .entry)) (Open processes)
+        (steppedIn (dayOf count event) (now (table .entry)) (Open processes) []) ⌝ }
+{
+    let mut none = [0u32; 1];
+    reply_of(table::step(
+        Day { count, event },
+        table,
+        Request::Open(processes),
+        &mut none,
+    ))
+}
+
+// An entry call.
+#[no_mangle]
+pub extern "C" fn nq_entry(
+    count: u32,
+    event: u32,
+    table: &mut [[u32; 208]],
+    process: u32,
+    word: u32,
+) -> ReplyNumbers
+    ensures { λ r. ⌜ r ≡ replyTo (steppedIn (dayOf count event) (now (table .entry)) (Update process word) []) ⌝ }
+    ensures { λ r. ⌜ now (table .exit) ≡ tableAfter (now (table .entry)) (Update process word)
+        (steppedIn (dayOf count event) (now (table .entry)) (Update process word) []) ⌝ }
+{
+    let mut none = [0u32; 1];
+    reply_of(table::step(
+        Day { count, event },
+        table,
+        Request::Update { process, word },
+        &mut none,
+    ))
+}
+
+// A page call.
+#[no_mangle]
+pub extern "C" fn nq_page(
+    count: u32,
+    event: u32,
+    table: &mut [[u32; 208]],
+    process: u32,
+) -> ReplyNumbers
+    ensures { λ r. ⌜ r ≡ replyTo (steppedIn (dayOf count event) (now (table .entry)) (Scan process) []) ⌝ }
+    ensures { λ r. ⌜ now (table .exit) ≡ tableAfter (now (table .entry)) (Scan process)
+        (steppedIn (dayOf count event) (now (table .entry)) (Scan process) []) ⌝ }
+{
+    let mut none = [0u32; 1];
+    reply_of(table::step(
+        Day { count, event },
+        table,
+        Request::Scan(process),
+        &mut none,
+    ))
+}
+
+// A turn, which lends a page list.
+#[no_mangle]
+pub extern "C" fn nq_turn(
+    count: u32,
+    event: u32,
+    table: &mut [[u32; 208]],
+    process: u32,
+    page: &mut [u32],
+) -> ReplyNumbers
+    ensures { λ r. ⌜ r ≡ replyTo (steppedIn (dayOf count event) (now (table .entry)) (Turn process) (now (page .entry))) ⌝ }
+    ensures { λ r. ⌜ now (table .exit) ≡ tableAfter (now (table .entry)) (Turn process)
+        (steppedIn (dayOf count event) (now (table .entry)) (Turn process) (now (page .entry))) ⌝ }
+    ensures { λ r. ⌜ now (page .exit) ≡
+        steppedIn (dayOf count event) (now (table .entry)) (Turn process) (now (page .entry)) .page ⌝ }
+{
+    reply_of(table::step(Day { count, event }, table, Request::Turn(process), page))
+}
+
+fn record(kind: u32, process: u32, word: u32, next: u32) -> RecordNumbers
+    ensures { λ r. ⌜ r ≡ recordWith 0 kind process word next ⌝ }
+{
+    RecordNumbers {
+        refusal: 0,
+        kind,
+        process,
+        word,
+        next,
+    }
+}
+
+fn request_numbers(x: Request, next: u32) -> RecordNumbers
+    ensures { λ r. ⌜ r ≡ requestNumbers x next ⌝ }
+{
+    match x {
+        Request::Open(count) => record(1, count, 0, next),
+        Request::Update { process, word } => record(2, process, word, next),
+        Request::Scan(process) => record(3, process, 0, next),
+        Request::Turn(process) => record(4, process, 0, next),
+    }
+}
+
+fn record_of(x: Reading) -> RecordNumbers
+    requires { ⌜ Short x ⌝ }
+    ensures { λ r. ⌜ r ≡ recordNumbers (readerReply x) ⌝ }
+{
+    match x {
+        Reading::Found { record, next } => request_numbers(record, next as u32),
+        Reading::End => record(0, 0, 0, 0),
+        Reading::Refused(k) => RecordNumbers {
+            refusal: snapshot::number(k),
+            kind: 0,
+            process: 0,
+            word: 0,
+            next: 0,
+        },
+    }
+}
+
+// The record that a day file begins with, or how it ends.
+#[no_mangle]
+pub extern "C" fn nq_read(bytes: &[u8]) -> RecordNumbers
+    ensures { λ r. ⌜ r ≡ recordNumbers (readerReply (reading (now (bytes .entry)))) ⌝ }
+{
+    record_of(dayfile::read(bytes))
+}
