@@ -1,0 +1,84 @@
+/* A day for two desks: desk 1 writes 7 to its row, then desk 2 reads a page. It prints one line an
+ * answer, as the day runner does.
+ *
+ *     cc -std=c99 -Wall -Wextra -pedantic -o example bindings/c/example.c target/staticlib/libnq.a */
+#include <inttypes.h>
+#include <stdio.h>
+#include <stdlib.h>
+
+#include "nelvaquist.h"
+
+#define DESKS 2
+
+/* All that the register knows. The last reply has the day, a blank one at first. */
+static struct nq_reply last;
+static uint32_t table[DESKS][NQ_RECORD_WORDS];
+static uint32_t page[DESKS];
+
+static void expect(int holds, const char *what)
+{
+    if (!holds) {
+        fprintf(stderr, "this does not hold: %s\n", what);
+        exit(1);
+    }
+}
+
+static void turn(uint32_t desk)
+{
+    int i;
+
+    last = nq_turn(last.count, last.event, table, DESKS, desk, page, DESKS);
+    switch (last.kind) {
+    case NQ_REFUSED:
+        printf("refused %" PRIu32 "\n", last.refusal);
+        break;
+    case NQ_READ:
+        printf("%" PRIu32 " read %" PRIu32 "\n", last.event, desk);
+        break;
+    case NQ_ROW_WRITTEN:
+        printf("%" PRIu32 " written %" PRIu32 " turns %" PRIu32 "\n", last.event, desk, last.turns);
+        break;
+    case NQ_PAGE_SHOWN:
+        printf("%" PRIu32 " page %" PRIu32 " from %" PRIu32, last.event, desk, last.lender);
+        printf(" at %" PRIu32 " turns %" PRIu32 " words", last.at, last.turns);
+        for (i = 0; i < DESKS; i++)
+            printf(" %" PRIu32, page[i]);
+        printf("\n");
+        break;
+    default:
+        expect(0, "a turn is refused, reads, shows a page or writes a row");
+    }
+}
+
+int main(void)
+{
+    last = nq_open(last.count, last.event, table, DESKS, DESKS);
+    expect(last.kind == NQ_OPENED, "the day is opened");
+    printf("open %" PRIu32 "\n", last.count);
+
+    last = nq_entry(last.count, last.event, table, DESKS, 1, 7);
+    expect(last.kind == NQ_CALLED, "desk 1's entry call is taken");
+    printf("%" PRIu32 " entry 1 7\n", last.event);
+    do
+        turn(1);
+    while (last.kind == NQ_READ);
+    expect(last.kind == NQ_ROW_WRITTEN && last.turns == 5, "row 1 is written by the fifth turn");
+    expect(table[0][NQ_ROW_WORD] == 7, "row 1 holds 7");
+    expect(table[0][NQ_ROW_SEQ] == 1, "row 1 has been written once");
+
+    last = nq_page(last.count, last.event, table, DESKS, 2);
+    expect(last.kind == NQ_CALLED, "desk 2's page call is taken");
+    printf("%" PRIu32 " asked 2\n", last.event);
+    do
+        turn(2);
+    while (last.kind == NQ_READ);
+    expect(last.kind == NQ_PAGE_SHOWN && last.turns == 4, "the page is shown by the fourth turn");
+    expect(last.lender == 0 && last.at == 9, "the page has no lender and stood after event 9");
+    expect(page[0] == 7 && page[1] == 0, "the page shows 7 and 0");
+
+    turn(2);
+    expect(last.refusal == NQ_DESK_IDLE, "a desk without a call is given no turn");
+    expect(last.count == DESKS && last.event == 11, "a refusal leaves the day as it was");
+    printf("end %" PRIu32 "\n", last.event);
+    return 0;
+}

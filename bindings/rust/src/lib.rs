@@ -1,0 +1,77 @@
+//! A register for up to eight desks. Each desk owns one row, which holds a word of 32 bits, and
+//! nobody locks anything: a desk writes its row by an *entry* and reads all rows together by a
+//! *page*, one row a *turn*. A page shows what stood in the rows at one instant, however the turns
+//! of other desks fall between its own. The method is that of Afek and others, "Atomic Snapshots of
+//! Shared Memory", Figure 3.
+//!
+//! ```
+//! use nelvaquist::{Answer, Register};
+//!
+//! let mut register = Register::new();
+//! register.open(2)?;
+//!
+//! // Desk 1 enters 7.
+//! register.entry(1, 7)?;
+//! while register.turn(1)? == Answer::Read {}
+//!
+//! // Desk 2 asks for a page.
+//! register.page(2)?;
+//! let page = loop {
+//!     if let Answer::Page(page) = register.turn(2)? {
+//!         break page;
+//!     }
+//! };
+//! assert_eq!(page.words(), [7, 0]);
+//! assert_eq!(page.lender(), None);
+//!
+//! // A turn without a call is refused, and changes nothing.
+//! let refusal = register.turn(2).unwrap_err();
+//! assert_eq!(refusal.number(), 4);
+//! assert_eq!(refusal.to_string(), "the desk has no call under way");
+//! # Ok::<(), nelvaquist::Refusal>(())
+//! ```
+//!
+//! # Turns
+//!
+//! An entry or a page begins with a call, and goes on by turns of its desk. Whoever holds the
+//! [`Register`] hands out the turns, in any order: a desk that gets none holds up no other. Of n
+//! desks, one that waits for a page has it after at most 2n² of its own turns, and one that enters
+//! has written after at most 2n² + 1. Every accepted call or turn is an *event*, numbered from 1 on
+//! since the opening, up to 65,535. *Instant t* is the moment after event t.
+//!
+//! # Keeping a day
+//!
+//! All that a register knows is its desk count, its event number and one [`Record`] for each desk.
+//! They are plain words, which can be kept or sent, and taken up by [`Register::from_parts`]. Words
+//! that were damaged are refused or worked on by the rules, but never make the register touch
+//! anything else. Pages are true on a day that grew from an opening and was kept as it was left.
+//!
+//! # The library
+//!
+//! The register is the proved library `libnq.a`, for x86-64 Linux; this crate passes on what it
+//! answers. The build looks for it in the directory that the environment variable
+//! `NELVAQUIST_LIB_DIR` names, else in `../../target/staticlib` as seen from this crate. Nothing
+//! here panics, unless a library of another version is linked.
+
+#![deny(missing_docs, unsafe_code, unsafe_op_in_unsafe_fn)]
+
+#[cfg(not(all(target_arch = "x86_64", target_os = "linux")))]
+compile_error!("libnq.a is for x86-64 Linux");
+
+mod answer;
+mod dayfile;
+mod library;
+mod record;
+mod refusal;
+mod register;
+
+pub use answer::{Answer, Page};
+pub use dayfile::DayFile;
+pub use record::Record;
+pub use refusal::Refusal;
+pub use register::{Register, Request};
+
+/// The library's reply is none that this crate knows.
+fn other_version(what: &str, number: u32) -> ! {
+    panic!("libnq.a is of another version than the crate nelvaquist: {what} {number}")
+}

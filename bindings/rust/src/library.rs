@@ -1,0 +1,77 @@
+//! The functions of libnq.a, as safe ones. They judge every number that they are passed, so a lent
+//! slice that is one is all that they ask for.
+
+#![allow(unsafe_code)]
+
+use crate::Record;
+
+/// What a request was answered, and the day after it.
+#[repr(C)]
+pub(crate) struct Reply {
+    pub(crate) desks: u32,
+    pub(crate) event: u32,
+    pub(crate) kind: u32,
+    pub(crate) refusal: u32,
+    pub(crate) lender: u32,
+    pub(crate) at: u32,
+    pub(crate) turns: u32,
+}
+
+/// What stands at the start of a part of a day file.
+#[repr(C)]
+pub(crate) struct Reading {
+    pub(crate) refusal: u32,
+    pub(crate) kind: u32,
+    pub(crate) desk: u32,
+    pub(crate) word: u32,
+    pub(crate) next: u32,
+}
+
+extern "C" {
+    fn nq_step(
+        desks: u32,
+        event: u32,
+        table: *mut Record,
+        records: usize,
+        kind: u32,
+        desk: u32,
+        word: u32,
+        page: *mut u32,
+        words: usize,
+    ) -> Reply;
+
+    fn nq_read(bytes: *const u8, length: usize) -> Reading;
+}
+
+/// A request of a kind, by the numbers of day files, for a desk and with a word.
+pub(crate) fn step(
+    (desks, event): (u32, u32),
+    table: &mut [Record],
+    (kind, desk, word): (u32, u32, u32),
+    page: &mut [u32],
+) -> Reply {
+    // SAFETY: `Record` is laid out as its array of 208 words. Both slices are initialised, aligned
+    // and not null, even if empty, hold as many elements as is said, and, being borrowed mutably,
+    // neither overlap nor are used by anybody else meanwhile. The library touches nothing outside
+    // of them and keeps no pointer, and any words that it leaves are valid.
+    unsafe {
+        nq_step(
+            desks,
+            event,
+            table.as_mut_ptr(),
+            table.len(),
+            kind,
+            desk,
+            word,
+            page.as_mut_ptr(),
+            page.len(),
+        )
+    }
+}
+
+/// Reads one record of a day file.
+pub(crate) fn read(bytes: &[u8]) -> Reading {
+    // SAFETY: the slice is initialised, not null even if empty, holds as many bytes as is said, and
+    // is not written meanwhile. The library only reads it, and keeps no pointer.
+    unsafe { nq_read(bytes.as_ptr(), bytes.len()) }
+}

@@ -1,0 +1,82 @@
+use std::error::Error;
+use std::fmt;
+
+/// Why a request or a day file is refused. Nothing was changed.
+///
+/// The numbers stay as they are; later versions may add others.
+#[derive(Clone, Copy, Debug, PartialEq, Eq, Hash)]
+#[non_exhaustive]
+#[repr(u32)]
+pub enum Refusal {
+    /// 1: the desk count asked for is outside 1 to 8.
+    DeskCount = 1,
+    /// 2: the desk number is outside 1 to the day's desk count.
+    NoSuchDesk = 2,
+    /// 3: the desk that calls has a call under way.
+    DeskBusy = 3,
+    /// 4: the desk that has the turn has no call under way.
+    DeskIdle = 4,
+    /// 5: the event number is 65,535, the last one of a day.
+    DayFull = 5,
+    /// 6: there is not exactly one record for each desk of the day, or the page list of a turn has
+    /// fewer words than the day has desks.
+    LentSize = 6,
+    /// 7: the day file ends within a record.
+    CutShort = 7,
+    /// 8: the day file has a record of an unknown kind.
+    UnknownKind = 8,
+    /// 9: the day file has a record whose length is outside 4 to 8, or not that of its kind.
+    WrongLength = 9,
+    /// 10: a call or a turn on a day that is not open, or an opening of a day that is.
+    OpenState = 10,
+    /// 11: the day cannot have arisen. Its desk count is above 8, its event number above 65,535, or
+    /// a record has a row that is newer than the day, an unknown task, or a task that has had more
+    /// turns than any can need.
+    CannotArise = 11,
+}
+
+const ALL: [Refusal; 11] = [
+    Refusal::DeskCount,
+    Refusal::NoSuchDesk,
+    Refusal::DeskBusy,
+    Refusal::DeskIdle,
+    Refusal::DayFull,
+    Refusal::LentSize,
+    Refusal::CutShort,
+    Refusal::UnknownKind,
+    Refusal::WrongLength,
+    Refusal::OpenState,
+    Refusal::CannotArise,
+];
+
+impl Refusal {
+    /// Its number, by which the specification and the day runner name it.
+    pub fn number(self) -> u32 {
+        self as u32
+    }
+
+    /// The refusal of a number, if it is one.
+    pub fn from_number(number: u32) -> Option<Refusal> {
+        ALL.into_iter().find(|refusal| refusal.number() == number)
+    }
+}
+
+impl fmt::Display for Refusal {
+    fn fmt(&self, f: &mut fmt::Formatter<'_>) -> fmt::Result {
+        f.write_str(match self {
+            Refusal::DeskCount => "the desk count is outside 1 to 8",
+            Refusal::NoSuchDesk => "the day has no desk of that number",
+            Refusal::DeskBusy => "the desk has a call under way",
+            Refusal::DeskIdle => "the desk has no call under way",
+            Refusal::DayFull => "the day has had its last event",
+            Refusal::LentSize => "there is not one record for each desk, or the page list is short",
+            Refusal::CutShort => "the day file is cut short",
+            Refusal::UnknownKind => "the day file has a record of an unknown kind",
+            Refusal::WrongLength => "the day file has a record of a wrong length",
+            Refusal::OpenState => "the day is not open, or is open already",
+            Refusal::CannotArise => "the day cannot have arisen",
+        })
+    }
+}
+
+impl Error for Refusal {}

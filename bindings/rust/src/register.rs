@@ -1,0 +1,164 @@
+use crate::library::{self, Reply};
+use crate::{other_version, Answer, Page, Record, Refusal};
+
+/// Something asked of a register: what one record of a day file holds.
+#[derive(Clone, Copy, Debug, PartialEq, Eq, Hash)]
+#[non_exhaustive]
+pub enum Request {
+    /// Opens the day.
+    Open {
+        /// The desk count asked for.
+        desks: u32,
+    },
+    /// An entry call: the desk will write its row.
+    Entry {
+        /// The desk that calls.
+        desk: u32,
+        /// The new word.
+        word: u32,
+    },
+    /// A page call: the desk will read all rows.
+    Page {
+        /// The desk that calls.
+        desk: u32,
+    },
+    /// A turn for the call that a desk has under way.
+    Turn {
+        /// The desk.
+        desk: u32,
+    },
+}
+
+/// A day of the register: its desk count, its event number and a record for each desk.
+///
+/// Desks are numbered from 1. A refused request changes nothing. See the [crate's page](crate) for
+/// an example.
+#[derive(Clone, Debug, Default, PartialEq, Eq)]
+pub struct Register {
+    desks: u32,
+    event: u32,
+    records: Vec<Record>,
+}
+
+impl Register {
+    /// The most desks that a day can have. A page list of so many words is long enough for any.
+    pub const MOST_DESKS: usize = 8;
+
+    /// A blank day, to be opened.
+    pub fn new() -> Register {
+        Register::default()
+    }
+
+    /// Takes up a day as it was kept: its desk count, its event number and the records of desks 1,
+    /// 2 and so on. Anything is taken; what does not fit together, the next request will refuse.
+    pub fn from_parts(desks: u32, event: u32, records: Vec<Record>) -> Register {
+        Register { desks, event, records }
+    }
+
+    /// The desk count, 0 before the opening.
+    pub fn desks(&self) -> u32 {
+        self.desks
+    }
+
+    /// The event number: that of the last call or turn accepted, 0 before the first.
+    pub fn event(&self) -> u32 {
+        self.event
+    }
+
+    /// The records of the desks, that of desk 1 first.
+    pub fn records(&self) -> &[Record] {
+        &self.records
+    }
+
+    /// Opens a blank day for that many desks, with new records.
+    ///
+    /// Refused with [`OpenState`](Refusal::OpenState) if the day is open, then with
+    /// [`DeskCount`](Refusal::DeskCount) if the count is outside 1 to 8.
+    pub fn open(&mut self, desks: u32) -> Result<(), Refusal> {
+        self.step(Request::Open { desks }, &mut []).map(|_| ())
+    }
+
+    /// An entry call: the desk's turns will write the word to its row.
+    ///
+    /// Refused, in this order, with [`OpenState`](Refusal::OpenState) if the day is not open,
+    /// [`LentSize`](Refusal::LentSize) or [`CannotArise`](Refusal::CannotArise) if it was taken up
+    /// damaged, [`NoSuchDesk`](Refusal::NoSuchDesk), [`DeskBusy`](Refusal::DeskBusy) if the desk
+    /// has a call under way, and [`DayFull`](Refusal::DayFull).
+    pub fn entry(&mut self, desk: u32, word: u32) -> Result<(), Refusal> {
+        self.step(Request::Entry { desk, word }, &mut []).map(|_| ())
+    }
+
+    /// A page call: the desk's turns will read all rows. Refused as an [entry call](Self::entry).
+    pub fn page(&mut self, desk: u32) -> Result<(), Refusal> {
+        self.step(Request::Page { desk }, &mut []).map(|_| ())
+    }
+
+    /// A turn of a desk, answered by [`Read`](Answer::Read) until the last one of its call, which
+    /// is answered by [`Page`](Answer::Page) or [`Written`](Answer::Written).
+    ///
+    /// Refused as an [entry call](Self::entry), but with [`DeskIdle`](Refusal::DeskIdle) if the
+    /// desk has no call under way.
+    pub fn turn(&mut self, desk: u32) -> Result<Answer, Refusal> {
+        self.step(Request::Turn { desk }, &mut [0; Register::MOST_DESKS])
+    }
+
+    /// A request of any kind, with a page list. Only a turn looks at the page list: it is refused
+    /// with [`LentSize`](Refusal::LentSize) if the list has fewer words than the day has desks, and
+    /// if it answers a page, the list's first words become the page's. No other word of the list
+    /// changes.
+    ///
+    /// ```
+    /// use nelvaquist::{DayFile, Register};
+    ///
+    /// // Opens for 2 desks, then desk 1 asks for a page.
+    /// let bytes = [4, 0, 1, 0, 2, 0, 4, 0, 3, 0, 1, 0];
+    ///
+    /// let mut register = Register::new();
+    /// let mut page = [0; Register::MOST_DESKS];
+    /// for request in DayFile::new(&bytes) {
+    ///     register.step(request?, &mut page)?;
+    /// }
+    /// assert_eq!((register.desks(), register.event()), (2, 1));
+    /// # Ok::<(), nelvaquist::Refusal>(())
+    /// ```
+    pub fn step(&mut self, request: Request, page: &mut [u32]) -> Result<Answer, Refusal> {
+        let day = (self.desks, self.event);
+        let reply = match request {
+            Request::Open { desks } => {
+                // A count that is refused is lent no records.
+                let most = Register::MOST_DESKS;
+                let count = usize::try_from(desks).ok().filter(|&count| count <= most);
+                let mut records = vec![Record::default(); count.unwrap_or(0)];
+                let reply = library::step(day, &mut records, (1, desks, 0), page);
+                if reply.kind != 0 {
+                    self.records = records;
+                }
+                reply
+            }
+            Request::Entry { desk, word } => {
+                library::step(day, &mut self.records, (2, desk, word), page)
+            }
+            Request::Page { desk } => library::step(day, &mut self.records, (3, desk, 0), page),
+            Request::Turn { desk } => library::step(day, &mut self.records, (4, desk, 0), page),
+        };
+        self.desks = reply.desks;
+        self.event = reply.event;
+        answer(&reply, page)
+    }
+}
+
+/// What a reply says. The words of a page are in the page list.
+fn answer(reply: &Reply, page: &[u32]) -> Result<Answer, Refusal> {
+    match reply.kind {
+        0 => match Refusal::from_number(reply.refusal) {
+            Some(refusal) => Err(refusal),
+            None => other_version("refusal", reply.refusal),
+        },
+        1 => Ok(Answer::Opened),
+        2 => Ok(Answer::Called),
+        3 => Ok(Answer::Read),
+        4 => Ok(Answer::Page(Page::new(page, reply.desks, reply.lender, reply.at, reply.turns))),
+        5 => Ok(Answer::Written { turns: reply.turns }),
+        kind => other_version("answer", kind),
+    }
+}

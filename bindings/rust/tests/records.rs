@@ -1,0 +1,225 @@
+//! Records kept and taken up again, and words that were damaged.
+
+use nelvaquist::{Answer, DayFile, Record, Register, Request};
+
+/// Numbers that look random, the same ones on every run.
+struct Random(u64);
+
+impl Random {
+    fn next(&mut self) -> u32 {
+        self.0 =
+            self.0.wrapping_mul(6_364_136_223_846_793_005).wrapping_add(1_442_695_040_888_963_407);
+        (self.0 >> 33) as u32
+    }
+
+    fn below(&mut self, bound: u32) -> u32 {
+        self.next() % bound
+    }
+}
+
+/// A record by what the C header says of its words; all others are 0.
+fn record(parts: &[(usize, &[u32])]) -> Record {
+    let mut words = [0; Record::WORDS];
+    for &(place, part) in parts {
+        words[place..place + part.len()].copy_from_slice(part);
+    }
+    Record::from_words(words)
+}
+
+#[test]
+fn laid_out_as_the_header_says() {
+    // Day B up to event 18: desk 1 is in its second double collect, desk 2 ready to write 9.
+    let file = include_bytes!("../../../samples/b.day");
+    let mut register = Register::new();
+    for request in DayFile::new(file).take(1 + 18) {
+        register.step(request.unwrap(), &mut [0; 8]).unwrap();
+    }
+    let row_2: &[u32] = &[7, 1, 0, 0, 0, 0, 0, 0, 0, 0, 6];
+    let desk_1 = record(&[
+        (11, &[1, 0, 0, 6]),
+        (15 + 11, row_2),
+        (103 + 11, row_2),
+        (191, &[13]),
+        (200, &[0, 1]),
+    ]);
+    let desk_2 = record(&[
+        (0, row_2),
+        (11, &[3, 9, 16, 4]),
+        (15 + 11, row_2),
+        (103 + 11, row_2),
+        (191, &[16]),
+        (192, &[0, 7]),
+    ]);
+    assert_eq!(register.records(), [desk_1, desk_2]);
+}
+
+#[test]
+fn marks_and_words_without_a_meaning() {
+    // A page has no word of its own and no instant, and any number is a mark.
+    let before = record(&[(0, &[3]), (11, &[1, 8, 9, 1]), (200, &[7, 0, u32::MAX])]);
+    let mut register = Register::from_parts(3, 5, vec![before, record(&[]), record(&[])]);
+    assert_eq!(register.turn(1), Ok(Answer::Read));
+    let after = record(&[(0, &[3]), (11, &[1, 0, 0, 2]), (200, &[1, 0, 1])]);
+    assert_eq!(register.records(), [after, record(&[]), record(&[])]);
+}
+
+/// Keeps a register as bytes and takes it up from them.
+fn through_bytes(register: &Register) -> Register {
+    let bytes: Vec<u8> = [register.desks(), register.event()]
+        .iter()
+        .chain(register.records().iter().flat_map(|record| record.words()))
+        .flat_map(|word| word.to_le_bytes())
+        .collect();
+    let words: Vec<u32> =
+        bytes.chunks_exact(4).map(|word| u32::from_le_bytes(word.try_into().unwrap())).collect();
+    let records = words[2..]
+        .chunks_exact(Record::WORDS)
+        .map(|words| Record::from_words(words.try_into().unwrap()))
+        .collect();
+    Register::from_parts(words[0], words[1], records)
+}
+
+#[test]
+fn kept_at_every_event() {
+    let file = include_bytes!("../../../samples/d.day");
+    let (mut register, mut kept) = (Register::new(), Register::new());
+    for request in DayFile::new(file) {
+        let (request, mut page, mut kept_page) = (request.unwrap(), [0; 8], [0; 8]);
+        let answer = register.step(request, &mut page);
+        assert_eq!(kept.step(request, &mut kept_page), answer);
+        assert_eq!((&kept, kept_page), (&register, page));
+        kept = through_bytes(&kept);
+        assert_eq!(kept, register);
+    }
+    assert_eq!(register.event(), 29);
+}
+
+#[test]
+fn a_day_goes_on_in_another_thread() {
+    let mut register = Register::new();
+    register.open(2).unwrap();
+    register.entry(1, 7).unwrap();
+    let written = std::thread::spawn(move || {
+        while register.turn(1) == Ok(Answer::Read) {}
+        register
+    });
+    let register = written.join().unwrap();
+    assert_eq!((register.event(), register.records()[0].words()[0]), (6, 7));
+}
+
+/// A word that is often one that decides something.
+fn word(random: &mut Random) -> u32 {
+    match random.below(4) {
+        0 => random.next() << 1 | random.below(2),
+        1 => u32::MAX - random.below(3),
+        _ => random.below(200),
+    }
+}
+
+/// A record of any words, or one that a day of so many desks and events could have but for what its
+/// desk has read.
+fn damaged(random: &mut Random, desks: u32, event: u32, fits: bool) -> Record {
+    let mut words = [0; Record::WORDS];
+    words.fill_with(|| word(random));
+    if fits {
+        words[1] = random.below(event + 1);
+        words[10] = random.below(event + 1);
+        words[11] = random.below(4);
+        words[14] = random.below(2 * desks * desks);
+        if random.below(2) == 0 {
+            // The next turn ends a double collect.
+            words[14] = 2 * desks * (1 + random.below(desks)) - 1;
+        }
+        if random.below(2) == 0 {
+            // Nobody is seen to have written.
+            for place in 15..103 {
+                words[place + 88] = words[place];
+            }
+        }
+    }
+    Record::from_words(words)
+}
+
+#[test]
+fn damaged_words() {
+    let mut random = Random(1);
+    let mut outcomes = [0; 17];
+    for _ in 0..10_000 {
+        let fits = random.below(4) != 0;
+        let desks = if fits { 1 + random.below(8) } else { random.below(12) * random.below(2) };
+        let event = match random.below(8) {
+            _ if !fits => word(&mut random),
+            0 => 65_535 - random.below(3),
+            _ => random.below(65_536),
+        };
+        let count = if random.below(20) == 0 { random.below(12) } else { desks };
+        let records = (0..count).map(|_| damaged(&mut random, desks, event, fits)).collect();
+        let mut register = Register::from_parts(desks, event, records);
+        for _ in 0..6 {
+            let desk = if random.below(20) == 0 { word(&mut random) } else { 1 + random.below(9) };
+            let request = match random.below(8) {
+                0 => Request::Open { desks: desk },
+                1 => Request::Entry { desk, word: word(&mut random) },
+                2 => Request::Page { desk },
+                _ => Request::Turn { desk },
+            };
+            let words = if random.below(10) == 0 { random.below(12) } else { 8 };
+            let mut page = vec![5; words as usize];
+            let before = register.clone();
+            let outcome = register.step(request, &mut page);
+            outcomes[looked_at(&before, &register, request, outcome, &page)] += 1;
+        }
+    }
+    // Every refusal but those of day files, and every answer, came up often.
+    for (outcome, &count) in outcomes.iter().enumerate() {
+        assert_eq!(count > 50, !matches!(outcome, 0 | 7..=9), "{outcomes:?}");
+    }
+}
+
+/// Checks what a request on any words may have changed, and counts its outcome.
+fn looked_at(
+    before: &Register,
+    after: &Register,
+    request: Request,
+    outcome: Result<Answer, nelvaquist::Refusal>,
+    page: &[u32],
+) -> usize {
+    let answer = match outcome {
+        Err(refusal) => {
+            assert_eq!(before, after);
+            assert!(page.iter().all(|&word| word == 5));
+            return refusal.number() as usize;
+        }
+        Ok(answer) => answer,
+    };
+    let unwritten = match answer {
+        Answer::Page(shown) => {
+            assert_eq!(shown.words(), &page[..after.desks() as usize]);
+            &page[after.desks() as usize..]
+        }
+        _ => page,
+    };
+    assert!(unwritten.iter().all(|&word| word == 5));
+    match request {
+        Request::Open { desks } => {
+            assert_eq!(answer, Answer::Opened);
+            assert_eq!((after.desks(), after.event()), (desks, 0));
+            assert_eq!(after.records(), vec![Record::default(); desks as usize]);
+        }
+        Request::Entry { desk, .. } | Request::Page { desk } | Request::Turn { desk } => {
+            assert_eq!((after.desks(), after.event()), (before.desks(), before.event() + 1));
+            for (i, (was, is)) in before.records().iter().zip(after.records()).enumerate() {
+                assert!(i + 1 == desk as usize || was == is, "record {i} changed");
+            }
+            assert_eq!(before.records().len(), after.records().len());
+        }
+        _ => {}
+    }
+    match answer {
+        Answer::Opened => 12,
+        Answer::Called => 13,
+        Answer::Read => 14,
+        Answer::Page(_) => 15,
+        _ => 16,
+    }
+}

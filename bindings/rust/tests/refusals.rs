@@ -1,0 +1,169 @@
+//! Each refusal by its cause, and that it changes nothing.
+
+use nelvaquist::{Answer, DayFile, Record, Refusal, Register, Request};
+use std::collections::HashSet;
+
+fn opened(desks: u32) -> Register {
+    let mut register = Register::new();
+    register.open(desks).unwrap();
+    register
+}
+
+/// Asks for something that is refused, and looks whether anything has changed.
+fn refused(register: &mut Register, request: Request, page: &mut [u32]) -> u32 {
+    let (before, page_before) = (register.clone(), page.to_vec());
+    let refusal = register.step(request, page).unwrap_err();
+    assert_eq!(*register, before);
+    assert_eq!(page, page_before);
+    refusal.number()
+}
+
+#[test]
+fn numbers_and_sentences() {
+    let refusals: Vec<Refusal> = (1..=11).map(|n| Refusal::from_number(n).unwrap()).collect();
+    let numbers: Vec<u32> = refusals.iter().map(|refusal| refusal.number()).collect();
+    assert_eq!(numbers, (1..=11).collect::<Vec<u32>>());
+    let sentences: HashSet<String> = refusals.iter().map(Refusal::to_string).collect();
+    assert_eq!(sentences.len(), 11);
+    for number in [0, 12, u32::MAX] {
+        assert_eq!(Refusal::from_number(number), None);
+    }
+    let error: Box<dyn std::error::Error + Send + Sync> = Box::new(Refusal::DayFull);
+    assert_eq!(error.to_string(), "the day has had its last event");
+}
+
+#[test]
+fn openings() {
+    for desks in [0, 9, 10, 1 << 31, u32::MAX] {
+        assert_eq!(refused(&mut Register::new(), Request::Open { desks }, &mut []), 1);
+        assert_eq!(refused(&mut opened(3), Request::Open { desks }, &mut []), 10);
+    }
+    for desks in 1..=8 {
+        let register = opened(desks);
+        assert_eq!((register.desks(), register.event()), (desks, 0));
+        assert_eq!(register.records(), vec![Record::default(); desks as usize]);
+        assert_eq!(refused(&mut register.clone(), Request::Open { desks }, &mut []), 10);
+    }
+}
+
+#[test]
+fn days_that_are_not_open() {
+    let mut blank = Register::new();
+    assert_eq!(refused(&mut blank, Request::Entry { desk: 1, word: 7 }, &mut []), 10);
+    assert_eq!(refused(&mut blank, Request::Page { desk: 1 }, &mut []), 10);
+    assert_eq!(refused(&mut blank, Request::Turn { desk: 1 }, &mut []), 10);
+}
+
+#[test]
+fn desks() {
+    let mut register = opened(2);
+    for desk in [0, 3, u32::MAX] {
+        assert_eq!(register.entry(desk, 7), Err(Refusal::NoSuchDesk));
+        assert_eq!(register.page(desk), Err(Refusal::NoSuchDesk));
+        assert_eq!(register.turn(desk), Err(Refusal::NoSuchDesk));
+    }
+    assert_eq!(register.turn(1), Err(Refusal::DeskIdle));
+    register.page(1).unwrap();
+    assert_eq!(refused(&mut register, Request::Page { desk: 1 }, &mut []), 3);
+    assert_eq!(refused(&mut register, Request::Entry { desk: 1, word: 7 }, &mut []), 3);
+    assert_eq!(register.turn(2), Err(Refusal::DeskIdle));
+    assert_eq!(register.event(), 1);
+}
+
+#[test]
+fn page_lists() {
+    for desks in 1..=8 {
+        let n = desks as usize;
+        let mut register = opened(desks);
+        register.page(1).unwrap();
+        for words in 0..n {
+            let mut short = vec![5; words];
+            assert_eq!(refused(&mut register, Request::Turn { desk: 1 }, &mut short), 6);
+        }
+        let mut list = [5; 10];
+        for _ in 1..2 * n {
+            let answer = register.step(Request::Turn { desk: 1 }, &mut list[..n]);
+            assert_eq!(answer, Ok(Answer::Read));
+            assert_eq!(list, [5; 10]);
+        }
+        let Ok(Answer::Page(page)) = register.step(Request::Turn { desk: 1 }, &mut list) else {
+            panic!("no page")
+        };
+        assert_eq!(page.words(), &list[..n]);
+        assert_eq!(page.words(), vec![0; n]);
+        assert_eq!(list[n..], [5; 10][n..]);
+    }
+}
+
+#[test]
+fn full_days() {
+    let mut register = opened(2);
+    register.page(1).unwrap();
+    let records = register.records().to_vec();
+    let mut last = Register::from_parts(2, 65_534, records.clone());
+    assert_eq!(last.turn(1), Ok(Answer::Read));
+    assert_eq!(last.event(), 65_535);
+    assert_eq!(last.turn(1), Err(Refusal::DayFull));
+    assert_eq!(last.page(2), Err(Refusal::DayFull));
+    assert_eq!(last.entry(2, 7), Err(Refusal::DayFull));
+    assert_eq!(last.page(1), Err(Refusal::DeskBusy));
+    assert_eq!(last.turn(2), Err(Refusal::DeskIdle));
+    let mut past = Register::from_parts(2, 65_536, records);
+    assert_eq!(past.turn(1), Err(Refusal::CannotArise));
+}
+
+#[test]
+fn days_that_cannot_have_arisen() {
+    let blank = |desks: usize| vec![Record::default(); desks];
+    let mut nine = Register::from_parts(9, 0, blank(9));
+    assert_eq!(nine.page(1), Err(Refusal::CannotArise));
+    assert_eq!(refused(&mut nine, Request::Turn { desk: 1 }, &mut [5; 9]), 11);
+    // A turn of its own lends eight words, which is too few.
+    assert_eq!(nine.turn(1), Err(Refusal::LentSize));
+    for records in [0, 1, 3, 9] {
+        let mut register = Register::from_parts(2, 0, blank(records));
+        assert_eq!(refused(&mut register, Request::Page { desk: 1 }, &mut []), 6);
+        assert_eq!(refused(&mut register, Request::Turn { desk: 1 }, &mut [5; 8]), 6);
+    }
+    // The row's seq and at, an unknown task, and too many turns, in the record of another desk.
+    for (place, word) in [(1, 6), (10, 6), (11, 4), (11, u32::MAX)] {
+        let mut words = [0; Record::WORDS];
+        words[place] = word;
+        let records = vec![Record::default(), Record::from_words(words)];
+        let mut register = Register::from_parts(2, 5, records);
+        assert_eq!(refused(&mut register, Request::Page { desk: 1 }, &mut []), 11);
+    }
+    for (task, most) in [(1, 7), (2, 7), (3, 8)] {
+        for (turns, wanted) in [(most, Ok(())), (most + 1, Err(Refusal::CannotArise))] {
+            let mut words = [0; Record::WORDS];
+            (words[11], words[14]) = (task, turns);
+            let records = vec![Record::default(), Record::from_words(words)];
+            assert_eq!(Register::from_parts(2, 5, records).page(1), wanted);
+        }
+    }
+}
+
+#[test]
+fn day_files() {
+    let read = |bytes: &[u8]| DayFile::new(bytes).collect::<Vec<_>>();
+    assert_eq!(read(&[]), []);
+    assert_eq!(read(&[4]), [Err(Refusal::CutShort)]);
+    assert_eq!(read(&[4, 0, 1, 0, 2]), [Err(Refusal::CutShort)]);
+    assert_eq!(read(&[4, 0, 9, 0, 1, 0]), [Err(Refusal::UnknownKind)]);
+    assert_eq!(read(&[4, 0, 2, 0, 1, 0]), [Err(Refusal::WrongLength)]);
+    assert_eq!(read(&[3, 0]), [Err(Refusal::WrongLength)]);
+    assert_eq!(read(&[255, 255, 1]), [Err(Refusal::WrongLength)]);
+    let whole = [8, 0, 2, 0, 1, 0, 4, 3, 2, 1, 4, 0, 4, 0, 255, 255];
+    let requests = [Request::Entry { desk: 1, word: 0x0102_0304 }, Request::Turn { desk: 65_535 }];
+    assert_eq!(read(&whole), requests.map(Ok));
+    for cut in 0..whole.len() {
+        let mut file = DayFile::new(&whole[..cut]);
+        let came: Vec<_> = file.by_ref().collect();
+        let records = usize::from(cut >= 10);
+        let left = cut - 10 * records;
+        assert_eq!(came.len(), records + usize::from(left > 0), "{cut}");
+        assert_eq!(came.last() == Some(&Err(Refusal::CutShort)), left > 0);
+        assert_eq!(file.rest().len(), left);
+        assert_eq!(file.next(), None);
+    }
+}
