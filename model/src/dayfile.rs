@@ -1,11 +1,9 @@
-//! Day files: records of a length, a kind, a 16-bit field and, for an entry call, a word; all
-//! little-endian. The length counts the bytes after itself.
+//! Day files. "House layout: length first, little-endian, a two-byte kind. Length (16 bits) counts the
+//! bytes after itself. Every field is 16 bits but the word, 32."
 
 use crate::register::Refusal;
 
-/// The bytes of the longest record.
-pub const LONGEST: usize = 10;
-
+/// The table of kinds, with what stands "after the kind".
 #[derive(Clone, Copy, Debug, PartialEq, Eq)]
 pub enum Record {
     Open { desks: u16 },
@@ -14,32 +12,45 @@ pub enum Record {
     Turn { desk: u16 },
 }
 
-/// Reads the record that `bytes` begin with: it and the place of the next, or nothing at the end.
+/// "The reader is lent the part of the file that begins at the record. It answers either one record
+/// and the place of the next, or a refusal." "No bytes left is the ordinary end."
 pub fn read(bytes: &[u8]) -> Result<Option<(Record, usize)>, Refusal> {
-    let length = match *bytes {
-        [] => return Ok(None),
-        [_] => return Err(Refusal::CutShort),
-        [low, high, ..] => u16::from_le_bytes([low, high]) as usize,
-    };
-    if !(4..=8).contains(&length) {
+    if bytes.is_empty() {
+        return Ok(None);
+    }
+    // "Order: 7 if only one byte is left;"
+    if bytes.len() == 1 {
+        return Err(Refusal::CutShort);
+    }
+    // "9 for a length outside 4 to 8;"
+    let length = u16::from_le_bytes([bytes[0], bytes[1]]);
+    if length < 4 || length > 8 {
         return Err(Refusal::WrongLength);
     }
-    let Some(body) = bytes.get(2..2 + length) else {
+    // "7 if the body is short;"
+    let end = 2 + length as usize;
+    if bytes.len() < end {
         return Err(Refusal::CutShort);
-    };
-    let kind = u16::from_le_bytes([body[0], body[1]]);
-    let field = u16::from_le_bytes([body[2], body[3]]);
-    let record = match (kind, body) {
-        (1, [_, _, _, _]) => Record::Open { desks: field },
-        (2, &[_, _, _, _, a, b, c, d]) => {
-            Record::Entry { desk: field, word: u32::from_le_bytes([a, b, c, d]) }
+    }
+    // "8; 9 for the kind."
+    let kind = u16::from_le_bytes([bytes[2], bytes[3]]);
+    if kind < 1 || kind > 4 {
+        return Err(Refusal::UnknownKind);
+    }
+    if length != if kind == 2 { 8 } else { 4 } {
+        return Err(Refusal::WrongLength);
+    }
+    let field = u16::from_le_bytes([bytes[4], bytes[5]]);
+    let record = match kind {
+        1 => Record::Open { desks: field },
+        2 => {
+            let word = u32::from_le_bytes([bytes[6], bytes[7], bytes[8], bytes[9]]);
+            Record::Entry { desk: field, word }
         }
-        (3, [_, _, _, _]) => Record::Page { desk: field },
-        (4, [_, _, _, _]) => Record::Turn { desk: field },
-        (1..=4, _) => return Err(Refusal::WrongLength),
-        _ => return Err(Refusal::UnknownKind),
+        3 => Record::Page { desk: field },
+        _ => Record::Turn { desk: field },
     };
-    Ok(Some((record, 2 + length)))
+    Ok(Some((record, end)))
 }
 
 /// Adds a record's bytes to a day file.

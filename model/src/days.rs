@@ -134,7 +134,8 @@ impl Draft {
                 0 => Record::Entry { desk, word: 7 },
                 1 => Record::Page { desk },
                 2 => Record::Turn { desk },
-                _ => Record::Open { desks: self.random.pick(&[0, 9, 10, 256, 257, 65_535]) },
+                _ if self.random.once_in(40) => Record::Open { desks: 65_535 },
+                _ => Record::Open { desks: self.random.pick(&[0, 9, 10, 256, 257, 4_096]) },
             };
             self.give(record);
         }

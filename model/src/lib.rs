@@ -1,6 +1,8 @@
-//! A model of the register, written from document 01 and Figure 3 alone. It is the other side of
-//! the comparison with the proved register, and the measure for its speed.
+//! A model of the register, written from document 01 and Figure 3 alone, in the plainest way
+//! (`register`, `dayfile`, `runner`). It is the other side of the comparison with the proved
+//! register. `baseline` is a fast day runner, which is held to the model and measures speed alone.
 
+pub mod baseline;
 pub mod counts;
 pub mod dayfile;
 pub mod days;

@@ -1,44 +1,62 @@
-//! The register: rows, desks, the day, its opening, calls and turns. The table of desk records and
-//! the page list are lent to every call. Nothing changes on a refusal.
+//! The register of document 01, "Rows, desks and the day" and "What one turn does", sentence by
+//! sentence. Each definition stands below the words that it is, in quotation marks. Desk j of the
+//! paper has place j - 1 in tables, collects and views.
 
-/// Rows in a collect and words in a view. Only an opening touches those past n.
+/// "A collect has eight rows and a view eight words".
 pub const PLACES: usize = 8;
 
-/// The number of the last event that a day can have.
+/// "5: the event number is 65,535".
 pub const LAST_EVENT: u32 = 65_535;
 
-/// The most reads of a page, 2n².
+/// "The most reads for 1 to 8 desks are 2, 8, 18, 32, 50, 72, 98, 128. These are 2n²."
 pub fn most_reads(n: u32) -> u32 {
     2 * n * n
 }
 
-/// Why a record, a call or a turn is refused, by document 01's numbers.
+/// "Reasons to refuse": the numbers of the table and their causes.
 #[derive(Clone, Copy, Debug, PartialEq, Eq)]
 pub enum Refusal {
+    /// "opening with a desk count outside 1 to 8"
     DeskCount = 1,
+    /// "desk number outside 1 to n"
     NoSuchDesk = 2,
+    /// "a call by a desk that isn't idle"
     DeskBusy = 3,
+    /// "a turn for an idle desk"
     DeskIdle = 4,
+    /// "the event number is 65,535"
     DayFull = 5,
+    /// "the desk table has not exactly n records, or, on a turn, the page list has fewer than n
+    /// words"
     LentSize = 6,
+    /// "day file cut short"
     CutShort = 7,
+    /// "unknown kind"
     UnknownKind = 8,
+    /// "length outside 4 to 8, or not that of the kind"
     WrongLength = 9,
+    /// "call or turn on a day whose desk count is 0, or opening of a day whose desk count isn't 0"
     OpenOrNot = 10,
+    /// "a day that cannot have arisen"
     CannotHaveArisen = 11,
 }
 
+/// "*view* (n words)", and "a view eight words; those past n are touched only by an opening".
 pub type View = [u32; PLACES];
 
+/// "A row belongs to one desk: word (32 bits, every value allowed, meaning left to the home), seq
+/// (how often the row has been written), view (n words) and at (the instant that the view stood)."
 #[derive(Clone, Copy, Debug, Default, PartialEq, Eq)]
 pub struct Row {
     pub word: u32,
     pub seq: u32,
-    pub at: u32,
     pub view: View,
+    pub at: u32,
 }
 
-/// What a desk is at, with the accepted turns it has had.
+/// "A desk's task is one of: idle; page being read; entry being read, with its new word; entry ready
+/// to write, with its word, its view and the view's at. Each but the first carries the accepted
+/// turns it has had". "The view and the marks, being arrays, lie beside it."
 #[derive(Clone, Copy, Debug, Default, PartialEq, Eq)]
 pub enum Task {
     #[default]
@@ -50,7 +68,6 @@ pub enum Task {
         turns: u32,
         word: u32,
     },
-    /// The view to be written is the record's `kept`.
     Ready {
         turns: u32,
         word: u32,
@@ -58,26 +75,31 @@ pub enum Task {
     },
 }
 
+/// "A record holds the desk's row, its task and what it has collected: 2n rows as read, one place
+/// for each read of a double collect, and the number of the turn that ended the first collect."
 #[derive(Clone, Copy, Debug, Default, PartialEq, Eq)]
 pub struct Desk {
     pub row: Row,
     pub task: Task,
+    /// "a task being read also carries its marks"
     pub marks: [bool; PLACES],
+    /// The view of an "entry ready to write".
     pub kept: View,
     pub first: [Row; PLACES],
     pub second: [Row; PLACES],
-    /// The number of the turn that ended the first collect.
     pub first_ended: u32,
 }
 
+/// "A day has a desk count and an event number. A blank day has both 0."
 #[derive(Clone, Copy, Debug, Default, PartialEq, Eq)]
 pub struct Day {
     pub desks: u32,
     pub event: u32,
 }
 
-/// What an accepted turn answers. A page's words are in the lent page list; `from` is 0 when the
-/// page is clean.
+/// "A page is answered in the turn that decides it, an entry in its writing turn. The answer carries
+/// the count of turns: the accepted turns of that desk since its call. A page's answer carries its
+/// at and names its lender, or 0 when clean."
 #[derive(Clone, Copy, Debug, PartialEq, Eq)]
 pub enum Turn {
     Read,
@@ -85,218 +107,266 @@ pub enum Turn {
     Written { turns: u32 },
 }
 
-/// A page as decided: its lender or 0, and its instant.
-struct Decided {
-    from: usize,
+/// A page that the last read of a double collect has decided.
+struct Page {
+    from: u32,
     at: u32,
+    words: Vec<u32>,
 }
 
 impl Day {
-    pub fn open(&mut self, table: &mut [Desk], desks: u32) -> Result<(), Refusal> {
+    /// "Opening sets the desk count to the number asked, and the event number and every number in the
+    /// records to 0, all desks idle."
+    pub fn open(&mut self, table: &mut [Desk], asked: u32) -> Result<(), Refusal> {
+        // "Order for opening: 10, 1, 6 (the table must have the asked number of records)."
         if self.desks != 0 {
             return Err(Refusal::OpenOrNot);
         }
-        if !(1..=PLACES as u32).contains(&desks) {
+        if asked < 1 || asked > 8 {
             return Err(Refusal::DeskCount);
         }
-        if table.len() != desks as usize {
+        if table.len() != asked as usize {
             return Err(Refusal::LentSize);
         }
-        *self = Day { desks, event: 0 };
-        table.fill(Desk::default());
+        self.desks = asked;
+        self.event = 0;
+        for record in table {
+            *record = Desk::default();
+        }
         Ok(())
     }
 
+    /// "An entry call gives a desk a new word."
     pub fn entry(&mut self, table: &mut [Desk], desk: u32, word: u32) -> Result<(), Refusal> {
         self.call(table, desk, Task::Entry { turns: 0, word })
     }
 
+    /// "A page call asks for all n words."
     pub fn page(&mut self, table: &mut [Desk], desk: u32) -> Result<(), Refusal> {
         self.call(table, desk, Task::Page { turns: 0 })
     }
 
+    /// "Both only set the task, with all desks unmarked."
     fn call(&mut self, table: &mut [Desk], desk: u32, task: Task) -> Result<(), Refusal> {
-        let i = self.find(table, None, desk)?;
-        if table[i].task != Task::Idle {
+        let size_wrong = table.len() != self.desks as usize;
+        self.refuse_any(table, size_wrong, desk)?;
+        let record = &mut table[desk as usize - 1];
+        // "then 3 or 4, then 5"
+        if record.task != Task::Idle {
             return Err(Refusal::DeskBusy);
         }
         if self.event == LAST_EVENT {
             return Err(Refusal::DayFull);
         }
+        // "Every accepted call or turn adds 1 to the event number; that is its own number."
         self.event += 1;
-        table[i].begin(self.desks as usize, task);
+        record.clear(self.desks as usize);
+        record.task = task;
         Ok(())
     }
 
+    /// "Then each turn of that desk makes one access, and any local decision is part of the same
+    /// turn." "When a turn is worked out, one desk's record is lent and changed, and the rows of the
+    /// others are only read."
     pub fn turn(
         &mut self,
         table: &mut [Desk],
         desk: u32,
         page: &mut [u32],
     ) -> Result<Turn, Refusal> {
-        let i = self.find(table, Some(page.len()), desk)?;
-        match table[i].task {
-            Task::Idle => Err(Refusal::DeskIdle),
-            _ if self.event == LAST_EVENT => Err(Refusal::DayFull),
-            Task::Ready { turns, word, at } => {
-                self.event += 1;
-                table[i].write(self.desks as usize, word, at);
-                Ok(Turn::Written { turns: turns + 1 })
-            }
-            Task::Page { turns } => Ok(self.page_turn(table, i, turns, page)),
-            Task::Entry { turns, word } => Ok(self.entry_turn(table, i, turns, word)),
+        let n = self.desks as usize;
+        let size_wrong = table.len() != n || page.len() < n;
+        self.refuse_any(table, size_wrong, desk)?;
+        let rows: Vec<Row> = table.iter().map(|record| record.row).collect();
+        let record = &mut table[desk as usize - 1];
+        // "then 3 or 4, then 5"
+        if record.task == Task::Idle {
+            return Err(Refusal::DeskIdle);
         }
-    }
-
-    fn page_turn(&mut self, table: &mut [Desk], i: usize, turns: u32, page: &mut [u32]) -> Turn {
-        let n = self.desks as usize;
-        let decided = self.read(table, i, turns);
-        let turns = turns + 1;
-        let Some(Decided { from, at }) = decided else {
-            table[i].task = Task::Page { turns };
-            return Turn::Read;
-        };
-        table[i].show(from, &mut page[..n]);
-        table[i].begin(n, Task::Idle);
-        Turn::Page { from: from as u32, at, turns }
-    }
-
-    fn entry_turn(&mut self, table: &mut [Desk], i: usize, turns: u32, word: u32) -> Turn {
-        let decided = self.read(table, i, turns);
-        let turns = turns + 1;
-        table[i].task = match decided {
-            None => Task::Entry { turns, word },
-            Some(Decided { from, at }) => {
-                let mut view = table[i].kept;
-                table[i].show(from, &mut view[..self.desks as usize]);
-                table[i].kept = view;
-                Task::Ready { turns, word, at }
-            }
-        };
-        Turn::Read
-    }
-
-    /// Makes desk i's reading turn, numbered from 0, and decides the page after a double collect.
-    fn read(&mut self, table: &mut [Desk], i: usize, turn: u32) -> Option<Decided> {
-        let n = self.desks as usize;
-        let p = turn as usize % (2 * n);
+        if self.event == LAST_EVENT {
+            return Err(Refusal::DayFull);
+        }
+        // "Every accepted call or turn adds 1 to the event number; that is its own number."
         self.event += 1;
-        if p < n {
-            let row = table[p].row;
-            table[i].first[p].copy(n, &row);
-            if p == n - 1 {
-                table[i].first_ended = self.event;
-            }
-            return None;
-        }
-        let row = table[p - n].row;
-        table[i].second[p - n].copy(n, &row);
-        if p == 2 * n - 1 {
-            table[i].decide(n)
-        } else {
-            None
-        }
+        Ok(record.turn(&rows, self.event, page))
     }
 
-    /// The place of a desk's record in the table, or the first of 10, 6, 11 and 2 that is met.
-    /// A turn says how many words its page list has.
-    fn find(&self, table: &[Desk], words: Option<usize>, desk: u32) -> Result<usize, Refusal> {
-        let n = self.desks as usize;
-        if n == 0 {
+    /// "For calls and turns: 10, 6, 11, 2, then 3 or 4, then 5." These are the first four; whether the
+    /// lent sizes are wrong is another question for a turn than for a call.
+    fn refuse_any(&self, table: &[Desk], size_wrong: bool, desk: u32) -> Result<(), Refusal> {
+        if self.desks == 0 {
             return Err(Refusal::OpenOrNot);
         }
-        if table.len() != n || words.is_some_and(|words| words < n) {
+        if size_wrong {
             return Err(Refusal::LentSize);
         }
         if self.cannot_have_arisen(table) {
             return Err(Refusal::CannotHaveArisen);
         }
-        if desk == 0 || desk as usize > n {
+        if desk < 1 || desk > self.desks {
             return Err(Refusal::NoSuchDesk);
         }
-        Ok(desk as usize - 1)
+        Ok(())
     }
 
+    /// "Number 11 is given if the desk count is above 8, the event number above 65,535, or if in any
+    /// of the n records the desk's own row has a seq or at above the event number, a task being read
+    /// has had more than 2n²−1 turns, or an entry ready to write more than 2n²."
     fn cannot_have_arisen(&self, table: &[Desk]) -> bool {
-        if self.desks > PLACES as u32 || self.event > LAST_EVENT {
+        if self.desks > 8 || self.event > LAST_EVENT {
             return true;
         }
-        let most = most_reads(self.desks);
-        table.iter().any(|desk| {
-            let overrun = match desk.task {
+        for record in table {
+            if record.row.seq > self.event || record.row.at > self.event {
+                return true;
+            }
+            let most = most_reads(self.desks);
+            let too_many = match record.task {
                 Task::Idle => false,
-                Task::Page { turns } | Task::Entry { turns, .. } => turns > most - 1,
+                Task::Page { turns } => turns > most - 1,
+                Task::Entry { turns, .. } => turns > most - 1,
                 Task::Ready { turns, .. } => turns > most,
             };
-            desk.row.seq > self.event || desk.row.at > self.event || overrun
-        })
+            if too_many {
+                return true;
+            }
+        }
+        false
     }
 }
 
 impl Desk {
-    /// Sets the task, as a call or the answer that ends one does: nothing collected, marked or kept.
-    fn begin(&mut self, n: usize, task: Task) {
-        self.task = task;
-        self.marks = [false; PLACES];
-        self.kept[..n].fill(0);
-        for j in 0..n {
-            self.first[j].clear(n);
-            self.second[j].clear(n);
+    /// The turn of this desk that has the number `event`, among the n rows.
+    fn turn(&mut self, rows: &[Row], event: u32, page: &mut [u32]) -> Turn {
+        match self.task {
+            Task::Idle => unreachable!("a turn for an idle desk is refused"),
+            Task::Page { turns } => self.page_turn(turns, rows, event, page),
+            Task::Entry { turns, word } => self.entry_turn(turns, word, rows, event),
+            Task::Ready { turns, word, at } => self.write(turns, word, at, rows.len()),
         }
-        self.first_ended = 0;
+    }
+
+    /// "A page's words are put in a lent list of words: its first n are written by a page answer;
+    /// later words, and all words on any other turn, remain."
+    fn page_turn(&mut self, turns: u32, rows: &[Row], event: u32, page: &mut [u32]) -> Turn {
+        match self.read(turns, rows, event) {
+            None => {
+                self.task = Task::Page { turns: turns + 1 };
+                Turn::Read
+            }
+            Some(decided) => {
+                for j in 0..rows.len() {
+                    page[j] = decided.words[j];
+                }
+                self.clear(rows.len());
+                self.task = Task::Idle;
+                Turn::Page { from: decided.from, at: decided.at, turns: turns + 1 }
+            }
+        }
+    }
+
+    /// "An entry reads a page in this manner first." The page is kept, with its at.
+    fn entry_turn(&mut self, turns: u32, word: u32, rows: &[Row], event: u32) -> Turn {
+        match self.read(turns, rows, event) {
+            None => self.task = Task::Entry { turns: turns + 1, word },
+            Some(decided) => {
+                for j in 0..rows.len() {
+                    self.kept[j] = decided.words[j];
+                }
+                self.task = Task::Ready { turns: turns + 1, word, at: decided.at };
+            }
+        }
+        Turn::Read
+    }
+
+    /// "A double collect is 2n reads: rows 1 to n, then rows 1 to n again. Reading turn t (from 0)
+    /// belongs to double collect t ÷ 2n (rounded down). With p the remainder, p below n reads row p+1
+    /// for the first collect, otherwise row p−n+1 for the second. A desk reads its own row too."
+    fn read(&mut self, t: u32, rows: &[Row], event: u32) -> Option<Page> {
+        let n = rows.len();
+        let p = t as usize % (2 * n);
+        // "A read replaces only its own place."
+        if p < n {
+            self.first[p] = replaced(self.first[p], rows[p], n);
+        } else {
+            self.second[p - n] = replaced(self.second[p - n], rows[p - n], n);
+        }
+        // "the number of the turn that ended the first collect"
+        if p == n - 1 {
+            self.first_ended = event;
+        }
+        // "After the last read"
+        if p == 2 * n - 1 {
+            self.decide(n)
+        } else {
+            None
+        }
     }
 
     fn differs(&self, j: usize) -> bool {
         self.first[j].seq != self.second[j].seq
     }
 
-    /// Figure 3, lines 4 to 10: a clean page, a lender, or new marks and another double collect.
-    fn decide(&mut self, n: usize) -> Option<Decided> {
-        if !(0..n).any(|j| self.differs(j)) {
-            return Some(Decided { from: 0, at: self.first_ended });
+    /// Rules 2, 3 and 4, and lines 4 to 10 of Figure 3.
+    fn decide(&mut self, n: usize) -> Option<Page> {
+        // "if every row has the same seq in both collects, the page is the words of the second
+        // collect. Its at is the number of the turn that ended the first collect."
+        if (0..n).all(|j| !self.differs(j)) {
+            let words = (0..n).map(|j| self.second[j].word).collect();
+            return Some(Page { from: 0, at: self.first_ended, words });
         }
+        // "Otherwise desks are looked at from 1 to n."
         for j in 0..n {
+            // "A desk whose seq differs and that is marked from an earlier double collect lends: the
+            // page is the view, and the at, of its row in the second collect." "The first lender ends
+            // the search."
+            if self.differs(j) && self.marks[j] {
+                let lent = self.second[j];
+                let words = lent.view[..n].to_vec();
+                return Some(Page { from: j as u32 + 1, at: lent.at, words });
+            }
+            // "A differing desk that isn't marked becomes marked."
             if self.differs(j) {
-                if self.marks[j] {
-                    return Some(Decided { from: j + 1, at: self.second[j].at });
-                }
                 self.marks[j] = true;
             }
         }
+        // "With no lender, another double collect begins. Marks remain."
         None
     }
 
-    /// The words of the second collect, or the lender's view in it.
-    fn show(&self, from: usize, page: &mut [u32]) {
-        if from > 0 {
-            page.copy_from_slice(&self.second[from - 1].view[..page.len()]);
-        } else {
-            for (word, row) in page.iter_mut().zip(&self.second) {
-                *word = row.word;
-            }
-        }
-    }
-
-    /// Writes the row and ends the task.
-    fn write(&mut self, n: usize, word: u32, at: u32) {
+    /// "Its next turn writes its row at once: word, seq plus 1, that page as view, that page's at."
+    fn write(&mut self, turns: u32, word: u32, at: u32, n: usize) -> Turn {
         self.row.word = word;
         self.row.seq += 1;
+        for j in 0..n {
+            self.row.view[j] = self.kept[j];
+        }
         self.row.at = at;
-        self.row.view[..n].copy_from_slice(&self.kept[..n]);
-        self.begin(n, Task::Idle);
+        self.clear(n);
+        self.task = Task::Idle;
+        Turn::Written { turns: turns + 1 }
+    }
+
+    /// "A call, and the answer that ends a task, set the collected part, the marks and any kept view
+    /// and its at to 0". "A collect has eight rows and a view eight words; those past n are touched
+    /// only by an opening." Marks are neither, so all of them are unset; the at is the task's.
+    fn clear(&mut self, n: usize) {
+        for j in 0..n {
+            self.first[j] = replaced(self.first[j], Row::default(), n);
+            self.second[j] = replaced(self.second[j], Row::default(), n);
+            self.kept[j] = 0;
+        }
+        self.first_ended = 0;
+        self.marks = [false; PLACES];
     }
 }
 
-impl Row {
-    /// Takes over another row, but for the words past n of its view.
-    fn copy(&mut self, n: usize, other: &Row) {
-        self.word = other.word;
-        self.seq = other.seq;
-        self.at = other.at;
-        self.view[..n].copy_from_slice(&other.view[..n]);
+/// What a place of a collect holds after a row was put in it: the row, and of the view's words "those
+/// past n are touched only by an opening".
+fn replaced(place: Row, row: Row, n: usize) -> Row {
+    let mut view = place.view;
+    for j in 0..n {
+        view[j] = row.view[j];
     }
-
-    fn clear(&mut self, n: usize) {
-        self.copy(n, &Row::default());
-    }
+    Row { word: row.word, seq: row.seq, view, at: row.at }
 }

@@ -1,22 +1,16 @@
-//! The day runner: a day file in, one line a record out, then `end` and the event number.
+//! The day runner of document 01, "Day files and the day runner": a whole day file in, its lines
+//! out. It is written to be read, and has no care for time or memory.
 
-use crate::dayfile::{self, Record, LONGEST};
-use crate::register::{Day, Desk, Refusal, Turn, View, PLACES};
-use std::error::Error;
-use std::fmt;
-use std::io::{self, ErrorKind, Read, Write};
+use crate::dayfile::{self, Record};
+use crate::register::{Day, Desk, Refusal, Turn};
 
-const INPUT: usize = 1 << 16;
-const OUTPUT: usize = 1 << 16;
-/// No line is longer.
-const LINE: usize = 256;
-
-/// A day with the table and the page list that are lent to its calls.
+/// A day, with "the table of desk records, one record for each desk", and the page list of the last
+/// turn.
 #[derive(Default)]
 pub struct Register {
     pub day: Day,
-    pub table: [Desk; PLACES],
-    pub page: View,
+    pub table: Vec<Desk>,
+    pub page: Vec<u32>,
 }
 
 /// What an accepted record did.
@@ -28,214 +22,124 @@ pub enum Done {
 }
 
 impl Register {
+    /// Does what a record asks. "The table of desk records, one record for each desk, is lent to every
+    /// call." A blank day has no desks, so its opening is lent a new table, of "the asked number of
+    /// records". A turn is lent a page list of n words. So no record of a day file is refused with 6.
     pub fn apply(&mut self, record: Record) -> Result<Done, Refusal> {
-        let n = self.day.desks as usize;
-        let table = &mut self.table[..n];
         match record {
             Record::Open { desks } => {
-                // A count that is refused anyway is lent no records.
-                let lent = if desks as usize <= PLACES { desks as usize } else { 0 };
-                self.day.open(&mut self.table[..lent], desks.into())?;
+                if self.day.desks == 0 {
+                    self.table = vec![Desk::default(); desks.into()];
+                }
+                self.day.open(&mut self.table, desks.into())?;
                 Ok(Done::Opened)
             }
             Record::Entry { desk, word } => {
-                self.day.entry(table, desk.into(), word)?;
+                self.day.entry(&mut self.table, desk.into(), word)?;
                 Ok(Done::Called)
             }
             Record::Page { desk } => {
-                self.day.page(table, desk.into())?;
+                self.day.page(&mut self.table, desk.into())?;
                 Ok(Done::Called)
             }
             Record::Turn { desk } => {
-                let turn = self.day.turn(table, desk.into(), &mut self.page[..n])?;
+                let mut page = vec![0; self.day.desks as usize];
+                let turn = self.day.turn(&mut self.table, desk.into(), &mut page)?;
+                self.page = page;
                 Ok(Done::Turned(turn))
             }
         }
     }
 
-    /// The words of the last page answered.
-    pub fn words(&self) -> &[u32] {
-        &self.page[..self.day.desks as usize]
-    }
-
-    /// Adds the line of an accepted record.
-    fn line(&self, record: Record, done: Done, out: &mut Vec<u8>) {
-        if done != Done::Opened {
-            number(out, self.day.event);
-        }
+    /// The line of an accepted record. "An opening prints `open` and the desk count. For every other
+    /// accepted record the first field is the event number; then what happened and the desk".
+    fn line(&self, record: Record, done: Done) -> String {
+        let event = self.day.event;
         match record {
-            Record::Open { desks } => field(out, b"open ", desks.into()),
-            Record::Entry { desk, word } => {
-                field(out, b" entry ", desk.into());
-                field(out, b" ", word);
-            }
-            Record::Page { desk } => field(out, b" asked ", desk.into()),
-            Record::Turn { desk } => self.turn_line(desk.into(), done, out),
+            Record::Open { desks } => format!("open {desks}"),
+            // "`entry` or `asked` for a call"; "After an entry call's desk stands the word"
+            Record::Entry { desk, word } => format!("{event} entry {desk} {word}"),
+            Record::Page { desk } => format!("{event} asked {desk}"),
+            Record::Turn { desk } => format!("{event} {}", self.turn_line(desk, done)),
         }
-        out.push(b'\n');
     }
 
-    fn turn_line(&self, desk: u32, done: Done, out: &mut Vec<u8>) {
+    /// "`written` or `page` for a turn that answers, `read` for any other turn"; "after `turns` the
+    /// count of turns, after `from` the lender, after `at` the instant, after `words` the n words".
+    fn turn_line(&self, desk: u16, done: Done) -> String {
         match done {
             Done::Turned(Turn::Page { from, at, turns }) => {
-                field(out, b" page ", desk);
-                field(out, b" from ", from);
-                field(out, b" at ", at);
-                field(out, b" turns ", turns);
-                out.extend_from_slice(b" words");
-                for &word in self.words() {
-                    field(out, b" ", word);
-                }
+                let words: Vec<String> = self.page.iter().map(u32::to_string).collect();
+                let words = words.join(" ");
+                format!("page {desk} from {from} at {at} turns {turns} words {words}")
             }
-            Done::Turned(Turn::Written { turns }) => {
-                field(out, b" written ", desk);
-                field(out, b" turns ", turns);
-            }
-            _ => field(out, b" read ", desk),
+            Done::Turned(Turn::Written { turns }) => format!("written {desk} turns {turns}"),
+            _ => format!("read {desk}"),
         }
     }
 }
 
-fn field(out: &mut Vec<u8>, name: &[u8], value: u32) {
-    out.extend_from_slice(name);
-    number(out, value);
+/// What a day file prints: "one line a record, then `end` and the event number".
+pub fn run(file: &[u8]) -> String {
+    run_watched(file, |_, _, _| {})
 }
 
-fn line(out: &mut Vec<u8>, name: &[u8], value: u32) {
-    field(out, name, value);
-    out.push(b'\n');
-}
-
-fn number(out: &mut Vec<u8>, mut value: u32) {
-    if value < 10 {
-        out.push(b'0' + value as u8);
-        return;
-    }
-    let mut digits = [0; 10];
-    let mut start = digits.len();
-    while value > 0 {
-        start -= 1;
-        digits[start] = b'0' + (value % 10) as u8;
-        value /= 10;
-    }
-    out.extend_from_slice(&digits[start..]);
-}
-
-/// Why a run ended before its day was printed whole.
-#[derive(Debug)]
-pub enum Broken {
-    Read(io::Error),
-    Write(io::Error),
-}
-
-impl From<io::Error> for Broken {
-    /// The `?` here stand at writes: a read that fails is kept until the lines before it are out.
-    fn from(error: io::Error) -> Self {
-        Broken::Write(error)
-    }
-}
-
-impl fmt::Display for Broken {
-    fn fmt(&self, f: &mut fmt::Formatter<'_>) -> fmt::Result {
-        match self {
-            Broken::Read(error) => write!(f, "cannot read standard input: {error}"),
-            Broken::Write(error) => write!(f, "cannot write standard output: {error}"),
-        }
-    }
-}
-
-impl Error for Broken {}
-
-/// The part of the input not yet taken, in a buffer of fixed size.
-struct Source<R> {
-    input: R,
-    buffer: Box<[u8]>,
-    start: usize,
-    end: usize,
-    ended: bool,
-    fault: Option<io::Error>,
-}
-
-impl<R: Read> Source<R> {
-    fn new(input: R) -> Self {
-        let buffer = vec![0; INPUT].into_boxed_slice();
-        Source { input, buffer, start: 0, end: 0, ended: false, fault: None }
-    }
-
-    /// What is left, with a whole record in it unless the input ends sooner.
-    fn rest(&mut self) -> &[u8] {
-        if self.end - self.start < LONGEST && !self.ended {
-            self.refill();
-        }
-        &self.buffer[self.start..self.end]
-    }
-
-    fn refill(&mut self) {
-        self.buffer.copy_within(self.start..self.end, 0);
-        self.end -= self.start;
-        self.start = 0;
-        while self.end < LONGEST && !self.ended {
-            match self.input.read(&mut self.buffer[self.end..]) {
-                Ok(0) => self.ended = true,
-                Ok(count) => self.end += count,
-                Err(error) if error.kind() == ErrorKind::Interrupted => {}
-                Err(error) => {
-                    self.ended = true;
-                    self.fault = Some(error);
-                }
-            }
-        }
-    }
-}
-
-/// Runs a day file. After a failing read the lines of the records that came whole are printed, and
-/// no more.
-pub fn run(input: impl Read, output: impl Write) -> Result<(), Broken> {
-    run_watched(input, output, |_, _, _| {})
-}
-
-/// Runs a day file and shows each record, its outcome and the register after it to `watch`. Where
-/// the file ends with 7, 8 or 9 there is no record.
+/// The same, with each record, its outcome and the register after it shown to `watch`. Where the file
+/// ends with 7, 8 or 9 there is no record.
 pub fn run_watched(
-    input: impl Read,
-    mut output: impl Write,
+    file: &[u8],
     mut watch: impl FnMut(Option<Record>, Result<Done, Refusal>, &Register),
-) -> Result<(), Broken> {
-    let mut source = Source::new(input);
+) -> String {
     let mut register = Register::default();
-    let mut out = Vec::with_capacity(OUTPUT + LINE);
+    let (mut lines, last) = run_records(&mut register, file, &mut watch);
+    // "Refusals 7, 8 and 9 end the file (the runner prints the refusal, then its `end` line)"
+    if let Some(refusal) = last {
+        lines.push(refused(refusal));
+        watch(None, Err(refusal), &register);
+    }
+    lines.push(format!("end {}", register.day.event));
+    ended(lines)
+}
+
+/// What is printed of a file of which only these bytes came, because a read failed then: the lines of
+/// the records that came whole. The papers are silent here; docs/DECISIONS.md is not.
+pub fn run_cut_off(file: &[u8]) -> String {
+    ended(run_records(&mut Register::default(), file, &mut |_, _, _| {}).0)
+}
+
+/// Takes a file's records one after the other. Answers their lines, and the refusal that ended the
+/// file if it was not the ordinary end.
+fn run_records(
+    register: &mut Register,
+    file: &[u8],
+    watch: &mut impl FnMut(Option<Record>, Result<Done, Refusal>, &Register),
+) -> (Vec<String>, Option<Refusal>) {
+    let mut place = 0;
+    let mut lines = Vec::new();
     loop {
-        match dayfile::read(source.rest()) {
-            Ok(None) => break,
-            Ok(Some((record, next))) => {
-                source.start += next;
-                let outcome = register.apply(record);
-                match outcome {
-                    Ok(done) => register.line(record, done, &mut out),
-                    Err(refusal) => line(&mut out, b"refused ", refusal as u32),
-                }
-                watch(Some(record), outcome, &register);
-            }
-            // The read that failed may have held the rest of it.
-            Err(_) if source.fault.is_some() => break,
-            Err(refusal) => {
-                line(&mut out, b"refused ", refusal as u32);
-                watch(None, Err(refusal), &register);
-                break;
-            }
-        }
-        if out.len() >= OUTPUT {
-            output.write_all(&out)?;
-            out.clear();
-        }
+        let (record, length) = match dayfile::read(&file[place..]) {
+            Ok(Some(found)) => found,
+            // "No bytes left is the ordinary end."
+            Ok(None) => return (lines, None),
+            Err(refusal) => return (lines, Some(refusal)),
+        };
+        let outcome = register.apply(record);
+        // "the others let the next record follow"
+        lines.push(match outcome {
+            Ok(done) => register.line(record, done),
+            Err(refusal) => refused(refusal),
+        });
+        watch(Some(record), outcome, register);
+        place += length;
     }
-    if source.fault.is_none() {
-        line(&mut out, b"end ", register.day.event);
-    }
-    output.write_all(&out)?;
-    output.flush()?;
-    match source.fault {
-        None => Ok(()),
-        Some(fault) => Err(Broken::Read(fault)),
-    }
+}
+
+/// "A refused record prints `refused` and its number."
+fn refused(refusal: Refusal) -> String {
+    format!("refused {}", refusal as u32)
+}
+
+/// "a line feed after each line"
+fn ended(lines: Vec<String>) -> String {
+    lines.iter().map(|line| format!("{line}\n")).collect()
 }

@@ -2,13 +2,11 @@
 
 use model::days::full_day;
 use model::papers::{missing, Case, CASES, ENDINGS};
-use model::register::{Day, Desk, Refusal, Turn, LAST_EVENT};
+use model::register::{most_reads, Day, Desk, Refusal, Turn, LAST_EVENT};
 use model::{runner, text};
 
 fn printed(file: &[u8]) -> String {
-    let mut out = Vec::new();
-    runner::run(file, &mut out).unwrap();
-    String::from_utf8(out).unwrap()
+    runner::run(file)
 }
 
 fn case(name: &str) -> &'static Case {
@@ -43,8 +41,7 @@ fn b_a_page_is_borrowed() {
 fn b_row_2_holds_9_at_its_end() {
     let mut row = 0;
     let file = text::to_bytes(case("B").day).unwrap();
-    runner::run_watched(file.as_slice(), Vec::new(), |_, _, now| row = now.table[1].row.word)
-        .unwrap();
+    runner::run_watched(&file, |_, _, now| row = now.table[1].row.word);
     assert_eq!(row, 9);
 }
 
@@ -129,4 +126,10 @@ fn files_that_break_off() {
     for (lines, wanted) in ENDINGS {
         assert_eq!(printed(&text::to_bytes(lines).unwrap()), wanted);
     }
+}
+
+#[test]
+fn the_most_reads() {
+    let stated = [2, 8, 18, 32, 50, 72, 98, 128];
+    assert_eq!((1..=8).map(most_reads).collect::<Vec<u32>>(), stated);
 }

@@ -6,22 +6,27 @@ use model::days::random_day;
 use model::register::{most_reads, Refusal, Turn};
 use model::runner::{run_watched, Done};
 
+/// "the call opens, with its word if it is an entry, its number e and no turns"
 struct Call {
-    /// Of an entry.
     word: Option<u32>,
     number: usize,
     turns: u32,
 }
 
+/// "It has a number e, a word for each row and for each desk at most one open call; at first zeros,
+/// and none open."
 #[derive(Default)]
 struct Tally {
     n: usize,
     calls: [Option<Call>; 8],
-    /// The rows' words at each instant.
+    /// "The words after event e, zeros for 0, are those of instant e." The last ones are the tally's
+    /// words, and their place is e.
     instants: Vec<[u32; 8]>,
 }
 
 impl Tally {
+    /// "The tally is fed the list in order: of each item its kind, its desk, its word if any, and its
+    /// answer or refusal." "A refusal: nothing changes."
     fn feed(&mut self, record: Option<Record>, outcome: Result<Done, Refusal>, page: &[u32]) {
         let Ok(done) = outcome else { return };
         match (record.unwrap(), done) {
@@ -36,32 +41,41 @@ impl Tally {
         }
     }
 
+    /// "e grows by 1"
     fn event(&mut self) -> usize {
         self.instants.push(*self.instants.last().unwrap());
         self.instants.len() - 1
     }
 
+    /// "An accepted call finds no open call of its desk".
     fn call(&mut self, desk: u16, word: Option<u32>) {
         let number = self.event();
         let open = self.calls[desk as usize - 1].replace(Call { word, number, turns: 0 });
         assert!(open.is_none());
     }
 
+    /// "its desk's open call, if any, gains a turn. An entry's answer puts that call's word in the
+    /// desk's row. A page's or an entry's answer closes the call."
     fn turn(&mut self, desk: u16, turn: Turn, page: &[u32]) {
         let desk = desk as usize - 1;
         let number = self.event();
         let mut call = self.calls[desk].take().unwrap();
         call.turns += 1;
         match turn {
+            // "at no point of the list does a desk still wait that has had 2n² accepted turns for a
+            // page, or 2n²+1 for an entry"
             Turn::Read => {
                 let most = most_reads(self.n as u32) + u32::from(call.word.is_some());
                 assert!(call.turns < most, "a desk still waits");
                 self.calls[desk] = Some(call);
             }
+            // "an answer finds one of its own kind. The turns in an answer are the tally's."
             Turn::Written { turns } => {
                 assert_eq!(turns, call.turns);
                 self.instants[number][desk] = call.word.unwrap();
             }
+            // "exactly the n words that stood in the rows together at the page's stated instant, later
+            // than its call and earlier than its answer"
             Turn::Page { at, turns, .. } => {
                 let at = at as usize;
                 assert!(call.word.is_none() && turns == call.turns);
@@ -77,14 +91,14 @@ fn every_page_stood_at_its_instant() {
     for seed in 1..=4_000 {
         let mut tally = Tally::default();
         let day = random_day(seed);
-        run_watched(day.as_slice(), std::io::sink(), |record, outcome, register| {
-            tally.feed(record, outcome, register.words());
+        run_watched(&day, |record, outcome, register| {
+            tally.feed(record, outcome, &register.page);
+            // "After the list the day's event number and the rows' words are the tally's."
             if let Some(words) = tally.instants.last() {
                 assert_eq!(register.day.event as usize, tally.instants.len() - 1);
                 let rows = register.table.iter().take(tally.n).map(|desk| desk.row.word);
                 assert!(rows.eq(words[..tally.n].iter().copied()));
             }
-        })
-        .unwrap();
+        });
     }
 }

@@ -40,7 +40,7 @@ fn pages(n: u16, records: usize) -> Vec<u8> {
     let mut give = |record| {
         dayfile::write(record, &mut file);
         let _ = register.apply(record);
-        register.table.map(|desk| desk.task == Task::Idle)
+        register.table.iter().map(|desk| desk.task == Task::Idle).collect::<Vec<bool>>()
     };
     let mut idle = give(Record::Open { desks: n });
     for i in 1..records {

@@ -6,10 +6,8 @@ use model::dayfile::Record;
 use model::days::{full_day, long_file, random_day};
 use model::papers::{self, CASES, ENDINGS};
 use model::program::{Ended, Program};
-use model::runner::Broken;
 use model::{dayfile, runner, text};
 use std::error::Error;
-use std::io::{self, Read};
 use std::mem;
 use std::path::PathBuf;
 use std::process::ExitCode;
@@ -178,11 +176,11 @@ impl Comparison {
             self.check_slowly(&long_file(300_000, count as u64), count)?;
         }
         let file = long_file(300_000, 7);
-        let mut wanted = Vec::new();
-        runner::run(file.as_slice(), &mut wanted)?;
+        let wanted = runner::run(&file);
         for _ in 0..3 {
             let printed = self.runner.printed_stopped(&file)?;
-            self.alike("a run that is stopped while it writes", &file, &wanted, &printed)?;
+            let name = "a run that is stopped while it writes";
+            self.alike(name, &file, wanted.as_bytes(), &printed)?;
         }
         let size = 24 << 20;
         let (grown, printed) = self.runner.growth(size)?;
@@ -193,10 +191,9 @@ impl Comparison {
     }
 
     fn check_slowly(&mut self, file: &[u8], count: usize) -> Checked {
-        let mut wanted = Vec::new();
-        runner::run(file, &mut wanted)?;
+        let wanted = runner::run(file);
         let printed = self.runner.printed_slowly(file, count)?;
-        self.alike(&format!("{count} bytes at a time"), file, &wanted, &printed)
+        self.alike(&format!("{count} bytes at a time"), file, wanted.as_bytes(), &printed)
     }
 
     /// Reads and writes that fail, at once or after a while: the message says which, and after a
@@ -209,14 +206,10 @@ impl Comparison {
         let long = long_file(60_000, 3);
         let cuts = (0..=small.len()).map(|at| &small[..at]);
         for file in cuts.chain((59_980..=60_000).map(|at| &long[..at])) {
-            let mut wanted = Vec::new();
-            match runner::run(Breaking(file), &mut wanted) {
-                Err(Broken::Read(_)) => {}
-                other => return Err(format!("the model's run ends with {other:?}").into()),
-            }
+            let wanted = runner::run_cut_off(file);
             let stopped = self.runner.read_until(file)?;
             let name = format!("a read that fails after {} bytes", file.len());
-            self.failed(&name, file, &wanted, &stopped, "read")?;
+            self.failed(&name, file, wanted.as_bytes(), &stopped, "read")?;
         }
         let long = long_file(1 << 20, 1);
         for file in [small.as_slice(), &long] {
@@ -224,10 +217,9 @@ impl Comparison {
                 self.failed("a failing write", file, b"", &stopped, "write")?;
             }
         }
-        let mut wanted = Vec::new();
-        runner::run(long.as_slice(), &mut wanted)?;
+        let wanted = runner::run(&long);
         let stopped = self.runner.written_until(&long)?;
-        let begun = wanted.get(..stopped.printed.len()).unwrap_or_default().to_vec();
+        let begun = wanted.as_bytes().get(..stopped.printed.len()).unwrap_or_default().to_vec();
         if begun.is_empty() || begun.len() == wanted.len() {
             return Err("no write failed after another".into());
         }
@@ -345,12 +337,11 @@ impl Comparison {
 
     /// Compares the two printouts of one day file.
     fn check(&mut self, name: &str, file: &[u8]) -> Checked {
-        let mut wanted = Vec::new();
-        runner::run_watched(file, &mut wanted, |record, outcome, register| {
+        let wanted = runner::run_watched(file, |record, outcome, register| {
             self.counts.watch(record, outcome, register)
-        })?;
+        });
         let printed = self.runner.printed(file)?;
-        self.alike(name, file, &wanted, &printed)
+        self.alike(name, file, wanted.as_bytes(), &printed)
     }
 
     fn alike(&mut self, name: &str, file: &[u8], wanted: &[u8], printed: &[u8]) -> Checked {
@@ -362,18 +353,6 @@ impl Comparison {
         let lines = text::to_text(file);
         let lines = if lines.len() < 4_000 { lines } else { String::new() };
         Err(format!("{name}: {}\nday file: {kept}\n{lines}", difference(wanted, printed)).into())
-    }
-}
-
-/// Gives its bytes and then fails.
-struct Breaking<'a>(&'a [u8]);
-
-impl Read for Breaking<'_> {
-    fn read(&mut self, buffer: &mut [u8]) -> io::Result<usize> {
-        match self.0.read(buffer)? {
-            0 => Err(io::Error::other("no more")),
-            count => Ok(count),
-        }
     }
 }
 

@@ -1,0 +1,245 @@
+//! The register as the fast day runner has it: in place, without a copy that it can do without.
+
+use crate::register::{most_reads, Refusal, Task, Turn, View, LAST_EVENT, PLACES};
+
+#[derive(Clone, Copy, Debug, Default, PartialEq, Eq)]
+pub struct Row {
+    pub word: u32,
+    pub seq: u32,
+    pub at: u32,
+    pub view: View,
+}
+
+#[derive(Clone, Copy, Debug, Default, PartialEq, Eq)]
+pub struct Desk {
+    pub row: Row,
+    pub task: Task,
+    pub marks: [bool; PLACES],
+    pub kept: View,
+    pub first: [Row; PLACES],
+    pub second: [Row; PLACES],
+    /// The number of the turn that ended the first collect.
+    pub first_ended: u32,
+}
+
+#[derive(Clone, Copy, Debug, Default, PartialEq, Eq)]
+pub struct Day {
+    pub desks: u32,
+    pub event: u32,
+}
+
+/// A page as decided: its lender or 0, and its instant.
+struct Decided {
+    from: usize,
+    at: u32,
+}
+
+impl Day {
+    pub fn open(&mut self, table: &mut [Desk], desks: u32) -> Result<(), Refusal> {
+        if self.desks != 0 {
+            return Err(Refusal::OpenOrNot);
+        }
+        if !(1..=PLACES as u32).contains(&desks) {
+            return Err(Refusal::DeskCount);
+        }
+        if table.len() != desks as usize {
+            return Err(Refusal::LentSize);
+        }
+        *self = Day { desks, event: 0 };
+        table.fill(Desk::default());
+        Ok(())
+    }
+
+    pub fn entry(&mut self, table: &mut [Desk], desk: u32, word: u32) -> Result<(), Refusal> {
+        self.call(table, desk, Task::Entry { turns: 0, word })
+    }
+
+    pub fn page(&mut self, table: &mut [Desk], desk: u32) -> Result<(), Refusal> {
+        self.call(table, desk, Task::Page { turns: 0 })
+    }
+
+    fn call(&mut self, table: &mut [Desk], desk: u32, task: Task) -> Result<(), Refusal> {
+        let i = self.find(table, None, desk)?;
+        if table[i].task != Task::Idle {
+            return Err(Refusal::DeskBusy);
+        }
+        if self.event == LAST_EVENT {
+            return Err(Refusal::DayFull);
+        }
+        self.event += 1;
+        table[i].begin(self.desks as usize, task);
+        Ok(())
+    }
+
+    pub fn turn(
+        &mut self,
+        table: &mut [Desk],
+        desk: u32,
+        page: &mut [u32],
+    ) -> Result<Turn, Refusal> {
+        let i = self.find(table, Some(page.len()), desk)?;
+        match table[i].task {
+            Task::Idle => Err(Refusal::DeskIdle),
+            _ if self.event == LAST_EVENT => Err(Refusal::DayFull),
+            Task::Ready { turns, word, at } => {
+                self.event += 1;
+                table[i].write(self.desks as usize, word, at);
+                Ok(Turn::Written { turns: turns + 1 })
+            }
+            Task::Page { turns } => Ok(self.page_turn(table, i, turns, page)),
+            Task::Entry { turns, word } => Ok(self.entry_turn(table, i, turns, word)),
+        }
+    }
+
+    fn page_turn(&mut self, table: &mut [Desk], i: usize, turns: u32, page: &mut [u32]) -> Turn {
+        let n = self.desks as usize;
+        let decided = self.read(table, i, turns);
+        let turns = turns + 1;
+        let Some(Decided { from, at }) = decided else {
+            table[i].task = Task::Page { turns };
+            return Turn::Read;
+        };
+        table[i].show(from, &mut page[..n]);
+        table[i].begin(n, Task::Idle);
+        Turn::Page { from: from as u32, at, turns }
+    }
+
+    fn entry_turn(&mut self, table: &mut [Desk], i: usize, turns: u32, word: u32) -> Turn {
+        let decided = self.read(table, i, turns);
+        let turns = turns + 1;
+        table[i].task = match decided {
+            None => Task::Entry { turns, word },
+            Some(Decided { from, at }) => {
+                let mut view = table[i].kept;
+                table[i].show(from, &mut view[..self.desks as usize]);
+                table[i].kept = view;
+                Task::Ready { turns, word, at }
+            }
+        };
+        Turn::Read
+    }
+
+    /// Makes desk i's reading turn, numbered from 0, and decides the page after a double collect.
+    fn read(&mut self, table: &mut [Desk], i: usize, turn: u32) -> Option<Decided> {
+        let n = self.desks as usize;
+        let p = turn as usize % (2 * n);
+        self.event += 1;
+        if p < n {
+            let row = table[p].row;
+            table[i].first[p].copy(n, &row);
+            if p == n - 1 {
+                table[i].first_ended = self.event;
+            }
+            return None;
+        }
+        let row = table[p - n].row;
+        table[i].second[p - n].copy(n, &row);
+        if p == 2 * n - 1 {
+            table[i].decide(n)
+        } else {
+            None
+        }
+    }
+
+    /// The place of a desk's record in the table, or the first of 10, 6, 11 and 2 that is met.
+    /// A turn says how many words its page list has.
+    fn find(&self, table: &[Desk], words: Option<usize>, desk: u32) -> Result<usize, Refusal> {
+        let n = self.desks as usize;
+        if n == 0 {
+            return Err(Refusal::OpenOrNot);
+        }
+        if table.len() != n || words.is_some_and(|words| words < n) {
+            return Err(Refusal::LentSize);
+        }
+        if self.cannot_have_arisen(table) {
+            return Err(Refusal::CannotHaveArisen);
+        }
+        if desk == 0 || desk as usize > n {
+            return Err(Refusal::NoSuchDesk);
+        }
+        Ok(desk as usize - 1)
+    }
+
+    fn cannot_have_arisen(&self, table: &[Desk]) -> bool {
+        if self.desks > PLACES as u32 || self.event > LAST_EVENT {
+            return true;
+        }
+        let most = most_reads(self.desks);
+        table.iter().any(|desk| {
+            let overrun = match desk.task {
+                Task::Idle => false,
+                Task::Page { turns } | Task::Entry { turns, .. } => turns > most - 1,
+                Task::Ready { turns, .. } => turns > most,
+            };
+            desk.row.seq > self.event || desk.row.at > self.event || overrun
+        })
+    }
+}
+
+impl Desk {
+    /// Sets the task, as a call or the answer that ends one does: nothing collected, marked or kept.
+    fn begin(&mut self, n: usize, task: Task) {
+        self.task = task;
+        self.marks = [false; PLACES];
+        self.kept[..n].fill(0);
+        for j in 0..n {
+            self.first[j].clear(n);
+            self.second[j].clear(n);
+        }
+        self.first_ended = 0;
+    }
+
+    fn differs(&self, j: usize) -> bool {
+        self.first[j].seq != self.second[j].seq
+    }
+
+    /// Figure 3, lines 4 to 10: a clean page, a lender, or new marks and another double collect.
+    fn decide(&mut self, n: usize) -> Option<Decided> {
+        if !(0..n).any(|j| self.differs(j)) {
+            return Some(Decided { from: 0, at: self.first_ended });
+        }
+        for j in 0..n {
+            if self.differs(j) {
+                if self.marks[j] {
+                    return Some(Decided { from: j + 1, at: self.second[j].at });
+                }
+                self.marks[j] = true;
+            }
+        }
+        None
+    }
+
+    /// The words of the second collect, or the lender's view in it.
+    fn show(&self, from: usize, page: &mut [u32]) {
+        if from > 0 {
+            page.copy_from_slice(&self.second[from - 1].view[..page.len()]);
+        } else {
+            for (word, row) in page.iter_mut().zip(&self.second) {
+                *word = row.word;
+            }
+        }
+    }
+
+    /// Writes the row and ends the task.
+    fn write(&mut self, n: usize, word: u32, at: u32) {
+        self.row.word = word;
+        self.row.seq += 1;
+        self.row.at = at;
+        self.row.view[..n].copy_from_slice(&self.kept[..n]);
+        self.begin(n, Task::Idle);
+    }
+}
+
+impl Row {
+    /// Takes over another row, but for the words past n of its view.
+    fn copy(&mut self, n: usize, other: &Row) {
+        self.word = other.word;
+        self.seq = other.seq;
+        self.at = other.at;
+        self.view[..n].copy_from_slice(&other.view[..n]);
+    }
+
+    fn clear(&mut self, n: usize) {
+        self.copy(n, &Row::default());
+    }
+}

@@ -1,0 +1,220 @@
+//! Damaged states: first one that the papers do not refuse, with any numbers where they allow any,
+//! then wounds.
+
+use crate::record::*;
+use crate::state::State;
+use model::random::Random;
+use model::register::{most_reads, LAST_EVENT, PLACES};
+
+/// The most records of a table and the most words of a page list that are lent.
+const MOST_RECORDS: usize = 12;
+const MOST_PAGE: usize = 20;
+
+/// A state for some n from 1 to 8: one in ten of nothing but any numbers, the others such as are
+/// accepted, half of these with a wound.
+pub fn state(random: &mut Random) -> State {
+    let n = 1 + random.below(PLACES);
+    if random.once_in(10) {
+        return anything(random);
+    }
+    let mut state = accepted(random, n);
+    if random.once_in(2) {
+        wound(random, &mut state);
+    }
+    state
+}
+
+/// Mostly a small number, sometimes one near a limit or any.
+pub fn number(random: &mut Random) -> u32 {
+    match random.below(8) {
+        0..=3 => random.below(4) as u32,
+        4 => random.below(200) as u32,
+        5 => random.pick(&[255, 256, 65_534, 65_535, 65_536, 1 << 31, u32::MAX - 1, u32::MAX]),
+        _ => random.draw() as u32,
+    }
+}
+
+fn anything(random: &mut Random) -> State {
+    let count = match random.below(4) {
+        0 => number(random),
+        _ => random.below(MOST_RECORDS + 1) as u32,
+    };
+    let records = match random.below(3) {
+        0 => random.below(MOST_RECORDS + 1),
+        _ => (count as usize).min(MOST_RECORDS),
+    };
+    let small = random.once_in(2);
+    let mut any = |limit| if small { random.below(limit) as u32 } else { number(random) };
+    let event = any(70_000);
+    let table = (0..records).map(|_| std::array::from_fn(|_| any(4))).collect();
+    State { count, event, table, page: page_list(random, 0) }
+}
+
+/// A page list of `least` to 20 words.
+pub fn page_list(random: &mut Random, least: usize) -> Vec<u32> {
+    let more = if random.once_in(6) { 0 } else { random.below(MOST_PAGE - least + 1) };
+    let words = least + more;
+    (0..words).map(|_| number(random)).collect()
+}
+
+/// A day for n desks and records that are not refused with 11, rubbish as they are.
+fn accepted(random: &mut Random, n: usize) -> State {
+    let event = match random.below(8) {
+        0 => LAST_EVENT - random.below(4) as u32,
+        1 => random.below(LAST_EVENT as usize + 1) as u32,
+        _ => random.below(60) as u32,
+    };
+    let rows: Vec<[u32; ROW_WORDS]> = (0..n).map(|_| row(random, event)).collect();
+    let table = (0..n).map(|own| record(random, own, &rows)).collect();
+    State { count: n as u32, event, table, page: page_list(random, n) }
+}
+
+/// A number up to the event number, often the event number itself.
+fn up_to(random: &mut Random, event: u32) -> u32 {
+    match random.below(4) {
+        0 => event,
+        1 => random.below(event as usize + 1) as u32,
+        _ => event.min(random.below(3) as u32),
+    }
+}
+
+fn row(random: &mut Random, event: u32) -> [u32; ROW_WORDS] {
+    let mut row = rubbish_row(random);
+    row[SEQ] = up_to(random, event);
+    row[AT] = up_to(random, event);
+    row
+}
+
+fn rubbish_row(random: &mut Random) -> [u32; ROW_WORDS] {
+    std::array::from_fn(|_| number(random))
+}
+
+fn record(random: &mut Random, own: usize, rows: &[[u32; ROW_WORDS]]) -> Words {
+    let mut words: Words = std::array::from_fn(|_| number(random));
+    words[..ROW_WORDS].copy_from_slice(&rows[own]);
+    task(random, rows.len() as u32, &mut words);
+    for (j, row) in rows.iter().enumerate() {
+        words[place(FIRST, j)..][..ROW_WORDS].copy_from_slice(row);
+        words[place(SECOND, j)..][..ROW_WORDS].copy_from_slice(row);
+    }
+    // None of the rows moved, or one, or the last, or most.
+    match random.below(5) {
+        0 | 1 => {}
+        2 => {
+            let j = random.below(rows.len());
+            stir(random, j, &mut words);
+        }
+        3 => stir(random, rows.len() - 1, &mut words),
+        _ => (0..rows.len()).for_each(|j| stir(random, j, &mut words)),
+    }
+    for j in 0..rows.len() {
+        past_n(random, rows.len(), &mut words[place(FIRST, j)..]);
+        past_n(random, rows.len(), &mut words[place(SECOND, j)..]);
+    }
+    marks(random, rows.len(), &mut words);
+    words
+}
+
+/// Some task with a number of turns that it can have had, often at the end of a double collect. The
+/// words that it does not have are rubbish, or 0.
+fn task(random: &mut Random, n: u32, words: &mut Words) {
+    let most = most_reads(n);
+    words[KIND] = random.pick(&[IDLE, PAGE, PAGE, ENTRY, ENTRY, READY]);
+    words[TURNS] = match random.below(4) {
+        0 => most - 1,
+        1 => 2 * n * (1 + random.below(n as usize) as u32) - 1 - random.below(2) as u32,
+        _ => random.below(most as usize) as u32,
+    };
+    if words[KIND] == READY {
+        words[TURNS] += 1;
+    }
+    if random.once_in(2) {
+        words[TASK_AT] = 0;
+        if words[KIND] == IDLE {
+            words[TURNS] = 0;
+        }
+    }
+}
+
+/// Puts another row in place j of a collect, or the same with another seq.
+fn stir(random: &mut Random, j: usize, words: &mut Words) {
+    let at = place(random.pick(&[FIRST, SECOND]), j);
+    if random.once_in(2) {
+        words[at..][..ROW_WORDS].copy_from_slice(&rubbish_row(random));
+    } else {
+        words[at + SEQ] = number(random);
+    }
+}
+
+/// Rubbish in the words past n of a view in a collect.
+fn past_n(random: &mut Random, n: usize, row: &mut [u32]) {
+    for j in n..PLACES {
+        row[VIEW + j] = number(random);
+    }
+}
+
+/// No marks, all from some desk on, or some, by any numbers.
+fn marks(random: &mut Random, n: usize, words: &mut Words) {
+    let way = random.below(5);
+    let from = random.below(n);
+    for (j, mark) in words[MARKS..].iter_mut().enumerate() {
+        let set = random.pick(&[1, 1, 2, 255, 256, 1 << 16, 1 << 31, u32::MAX]);
+        *mark = match way {
+            0 => 0,
+            1 | 2 => set * u32::from(j >= from),
+            _ => random.pick(&[0, 0, set]),
+        };
+    }
+}
+
+/// Damages a state in one way.
+pub fn wound(random: &mut Random, state: &mut State) {
+    let n = state.count as usize;
+    match random.below(14) {
+        0 => state.event = LAST_EVENT + 1 + random.below(3) as u32,
+        1 => state.event = number(random),
+        2 => {
+            // A count above 8, with a table of just that many records.
+            state.count = 9 + random.below(MOST_RECORDS - 8) as u32;
+            let first = state.table.first().copied().unwrap_or([0; WORDS]);
+            state.table.resize(state.count as usize, first);
+            state.page = page_list(random, state.count as usize);
+        }
+        3 => {
+            let first = state.table.first().copied().unwrap_or([0; WORDS]);
+            state.table.resize(random.below(MOST_RECORDS + 1), first);
+        }
+        4 if random.once_in(3) => state.count = 0,
+        4 => state.count = state.count.wrapping_add(random.pick(&[1, 1 << 8, 1 << 16, 1 << 31])),
+        5 => state.page = page_list(random, 0),
+        6 => state.page.truncate(n.min(state.page.len()).saturating_sub(1 + random.below(2))),
+        7 => {
+            for _ in 0..3 {
+                wound_record(random, state);
+            }
+        }
+        _ => wound_record(random, state),
+    }
+}
+
+/// Damages one record: what 11 looks at, or any of its words.
+fn wound_record(random: &mut Random, state: &mut State) {
+    if state.table.is_empty() {
+        return;
+    }
+    let own = random.below(state.table.len());
+    let above = state.event.saturating_add(1).saturating_add(random.pick(&[0, 0, 1, 1 << 20]));
+    let n = state.count.min(PLACES as u32);
+    let beyond = most_reads(n) + random.pick(&[0, 0, 1, 1 << 20, 1 << 31]);
+    let any = number(random);
+    let words = &mut state.table[own];
+    match random.below(8) {
+        0 => words[SEQ] = above,
+        1 => words[AT] = above,
+        2 => (words[KIND], words[TURNS]) = (PAGE, beyond),
+        3 => (words[KIND], words[TURNS]) = (ENTRY, beyond),
+        4 => (words[KIND], words[TURNS]) = (READY, beyond + 1),
+        5 => words[KIND] = random.pick(&[4, 5, 255, 256, 257, 1 << 16, (1 << 16) + 1, u32::MAX]),
+        _ => words[random.below(WORDS)] = any,
+    }
+}

@@ -1,0 +1,81 @@
+//! What differs between two outcomes, and the state and request of it, to be read by people.
+
+use crate::record::*;
+use crate::state::*;
+use std::fmt::Write;
+
+/// All that the library did otherwise than the model, one line each.
+pub fn differences(model: &Outcome, library: &Outcome) -> Vec<String> {
+    let mut lines = Vec::new();
+    if model.reply != library.reply {
+        lines.push(format!("reply: model {:?}, library {:?}", model.reply, library.reply));
+    }
+    let (wanted, given) = (&model.after, &library.after);
+    if (wanted.count, wanted.event) != (given.count, given.event) {
+        lines.push(format!(
+            "day: model count {} event {}, library count {} event {}",
+            wanted.count, wanted.event, given.count, given.event
+        ));
+    }
+    for (i, (one, other)) in wanted.table.iter().zip(&given.table).enumerate() {
+        for word in (0..WORDS).filter(|&word| one[word] != other[word]) {
+            let (what, one, other) = (name(word), one[word], other[word]);
+            lines.push(format!("record {}, {what}: model {one}, library {other}", i + 1));
+        }
+    }
+    for (i, (one, other)) in wanted.page.iter().zip(&given.page).enumerate() {
+        if one != other {
+            lines.push(format!("page list, word {}: model {one}, library {other}", i + 1));
+        }
+    }
+    lines
+}
+
+/// A request in a line.
+pub fn request_line(request: Request) -> String {
+    let Request { kind, process, word } = request;
+    match kind {
+        OPENING => format!("opening for {process}"),
+        ENTRY_CALL => format!("entry call of desk {process}, word {word}"),
+        PAGE_CALL => format!("page call of desk {process}"),
+        TURN => format!("turn of desk {process}"),
+        _ => format!("kind {kind}, process {process}, word {word}"),
+    }
+}
+
+/// A state, all of its words.
+pub fn state_lines(state: &State) -> String {
+    let mut text = format!("day: count {}, event {}\n", state.count, state.event);
+    for (i, words) in state.table.iter().enumerate() {
+        let _ = writeln!(text, "record {}: row {}", i + 1, row_text(words, ROW));
+        let _ = writeln!(text, "  task {}", task_text(words));
+        for (collect, called) in [(FIRST, "first"), (SECOND, "second")] {
+            for j in 0..8 {
+                let row = row_text(words, place(collect, j));
+                let _ = writeln!(text, "  {called} collect, row {}: {row}", j + 1);
+            }
+        }
+        let _ = writeln!(text, "  first collect ended by turn {}", words[FIRST_ENDED]);
+        let _ = writeln!(text, "  kept view {:?}", &words[KEPT..MARKS]);
+        let _ = writeln!(text, "  marks {:?}", &words[MARKS..]);
+    }
+    let _ = writeln!(text, "page list: {:?}", state.page);
+    text
+}
+
+fn row_text(words: &Words, at: usize) -> String {
+    let row = &words[at..at + ROW_WORDS];
+    format!("word {}, seq {}, view {:?}, at {}", row[ROW], row[SEQ], &row[VIEW..AT], row[AT])
+}
+
+fn task_text(words: &Words) -> String {
+    let called = match words[KIND] {
+        IDLE => "idle",
+        PAGE => "page",
+        ENTRY => "entry",
+        READY => "entry ready to write",
+        _ => "unknown",
+    };
+    let (kind, word, at, turns) = (words[KIND], words[TASK_WORD], words[TASK_AT], words[TURNS]);
+    format!("{called} (kind {kind}), word {word}, at {at}, turns {turns}")
+}

@@ -1,0 +1,11 @@
+//! What the library is asked and what the model answers, with the day, every word of every record
+//! and every word of the page list. The library itself is linked to the binary alone.
+
+pub mod bytes;
+pub mod damage;
+pub mod differences;
+pub mod reached;
+pub mod record;
+pub mod requests;
+pub mod state;
+pub mod wanted;

@@ -1,0 +1,334 @@
+//! What the states have reached, counted from the model's own outcomes, and what they must reach.
+
+use crate::record::*;
+use crate::state::*;
+use model::counts::Reached;
+use model::register::{most_reads, LAST_EVENT, PLACES};
+use std::collections::BTreeMap;
+
+/// Counts above this stand in one column.
+const LAST_COLUMN: usize = 12;
+
+/// What must be reached, for these n. Column 0 has what is met on a day of no desks.
+const REQUIRED: &[(&str, usize, usize)] = &[
+    ("openings", 1, 8),
+    ("entry calls", 1, 8),
+    ("page calls", 1, 8),
+    ("reads", 1, 8),
+    ("clean pages", 1, 8),
+    ("borrowed pages", 1, 8),
+    ("pages borrowed from desk n, whatever the count", 1, 8),
+    ("entries that found a clean page", 1, 8),
+    ("entries that borrowed a page", 1, 8),
+    ("entries that marked a desk before the lender", 2, 8),
+    ("entries written", 1, 8),
+    ("first collects ended", 1, 8),
+    ("double collects ended without a page", 1, 8),
+    ("pages of 2n² turns", 1, 8),
+    ("entries of 2n²+1 turns", 1, 8),
+    ("pages going on past the last double collect", 1, 8),
+    ("entries going on past the last double collect", 1, 8),
+    ("accepted with a seq as large as the event number", 1, 8),
+    ("accepted with an at as large as the event number", 1, 8),
+    ("event 65,535", 1, 8),
+    ("reads into places with words past n that stay", 1, 7),
+    ("kept views with words past n that stay", 1, 7),
+    ("rows written with words past n that stay", 1, 7),
+    ("page lists with words past n that stay", 1, 8),
+    ("page lists of just n words", 1, 8),
+    ("collects' rows past n that stay at a call or an answer", 1, 7),
+    ("words past n that stay where a call or an answer clears", 1, 7),
+    ("marks past n unset by a call or an answer", 1, 7),
+    ("marks past n that stay over a read", 1, 7),
+    ("own marks other than 0 and 1 made 1", 1, 8),
+    ("others' marks other than 0 and 1 left", 2, 8),
+    ("words that the own task does not have made 0", 1, 8),
+    ("words that another task does not have left", 2, 8),
+    ("5 accepted requests on one damaged state", 1, 8),
+    ("20 accepted requests on one damaged state", 1, 8),
+    ("refusal 1", 0, 0),
+    ("refusal 2", 1, 8),
+    ("refusal 3", 1, 8),
+    ("refusal 4", 1, 8),
+    ("refusal 4 after the last event", 1, 8),
+    ("refusal 5 of a call", 1, 8),
+    ("refusal 5 of a turn", 1, 8),
+    ("refusal 6 of an opening by the table", 1, 8),
+    ("refusal 6 by the table", 1, 12),
+    ("refusal 6 by the page list", 1, 12),
+    ("refusal 8", 0, 8),
+    ("refusal 10 of a call or a turn", 0, 0),
+    ("refusal 10 of an opening", 1, 8),
+    ("refusal 11", 1, 12),
+    (COUNT_ABOVE, 9, 12),
+    (EVENT_ABOVE, 1, 8),
+    (SEQ_ABOVE, 1, 8),
+    (AT_ABOVE, 1, 8),
+    (PAGE_BEYOND, 1, 8),
+    (ENTRY_BEYOND, 1, 8),
+    (READY_BEYOND, 1, 8),
+    (UNKNOWN_TASK, 1, 8),
+];
+
+const COUNT_ABOVE: &str = "refusal 11 alone by a count above 8, with as many records";
+const EVENT_ABOVE: &str = "refusal 11 alone by an event number above 65,535";
+const SEQ_ABOVE: &str = "refusal 11 alone by a seq above the event number";
+const AT_ABOVE: &str = "refusal 11 alone by an at above the event number";
+const PAGE_BEYOND: &str = "refusal 11 alone by a page's turns beyond 2n²-1";
+const ENTRY_BEYOND: &str = "refusal 11 alone by an entry's turns beyond 2n²-1";
+const READY_BEYOND: &str = "refusal 11 alone by a ready entry's turns beyond 2n²";
+const UNKNOWN_TASK: &str = "refusal 11 alone by an unknown task kind";
+
+/// What the reader must have met.
+const READER: &[&str] = &[
+    "reader: the end",
+    "reader: openings",
+    "reader: entry calls",
+    "reader: page calls",
+    "reader: turns",
+    "reader: 7 for one byte",
+    "reader: 7 for a short body",
+    "reader: 8",
+    "reader: 9 for a length outside 4 to 8",
+    "reader: 9 for the kind",
+];
+
+#[derive(Default)]
+pub struct Counts(BTreeMap<&'static str, [u64; LAST_COLUMN + 1]>);
+
+impl Counts {
+    fn add(&mut self, name: &'static str, n: usize) {
+        self.add_if(true, name, n);
+    }
+
+    fn add_if(&mut self, met: bool, name: &'static str, n: usize) {
+        if met {
+            self.0.entry(name).or_default()[n.min(LAST_COLUMN)] += 1;
+        }
+    }
+
+    fn of(&self, name: &str) -> [u64; LAST_COLUMN + 1] {
+        self.0.get(name).copied().unwrap_or_default()
+    }
+
+    /// All that must be reached, with its counts.
+    pub fn reached(&self) -> Reached {
+        let mut reached = Reached::default();
+        for &(name, from, to) in REQUIRED {
+            let columns = match (from, to) {
+                (0, 0) => String::new(),
+                _ => format!(", n = {from} to {to}"),
+            };
+            reached.add(format!("{name}{columns}"), &self.of(name)[from..=to]);
+        }
+        for name in READER {
+            reached.add(*name, &self.of(name)[..1]);
+        }
+        reached
+    }
+
+    /// Takes in a request on a state, and its outcome.
+    pub fn watch(&mut self, before: &State, request: Request, outcome: &Outcome) {
+        match outcome.reply.kind {
+            REFUSED => self.refused(before, request, outcome.reply.refusal),
+            OPENED => self.add("openings", request.process as usize),
+            CALLED => self.called(before, request, outcome),
+            _ => self.turned(before, request, outcome),
+        }
+    }
+
+    /// So many requests were accepted on one damaged state by now.
+    pub fn accepted_on_one(&mut self, n: u32, count: usize) {
+        self.add_if(count == 5, "5 accepted requests on one damaged state", n as usize);
+        self.add_if(count == 20, "20 accepted requests on one damaged state", n as usize);
+    }
+
+    fn refused(&mut self, before: &State, request: Request, refusal: u32) {
+        let n = before.count as usize;
+        let opening = request.kind == OPENING;
+        let name = match refusal {
+            1 => "refusal 1",
+            2 => "refusal 2",
+            3 => "refusal 3",
+            4 if before.event == LAST_EVENT => "refusal 4 after the last event",
+            4 => "refusal 4",
+            5 if request.kind == TURN => "refusal 5 of a turn",
+            5 => "refusal 5 of a call",
+            6 if opening => "refusal 6 of an opening by the table",
+            6 if before.table.len() == n => "refusal 6 by the page list",
+            6 => "refusal 6 by the table",
+            8 => "refusal 8",
+            10 if opening => "refusal 10 of an opening",
+            10 => "refusal 10 of a call or a turn",
+            _ => "refusal 11",
+        };
+        self.add(name, if opening && refusal == 6 { request.process as usize } else { n });
+        if refusal == 11 {
+            if let [cause] = causes(before).as_slice() {
+                self.add(cause, n);
+            }
+        }
+    }
+
+    fn called(&mut self, before: &State, request: Request, outcome: &Outcome) {
+        let n = before.count as usize;
+        self.add_if(request.kind == ENTRY_CALL, "entry calls", n);
+        self.add_if(request.kind == PAGE_CALL, "page calls", n);
+        self.accepted(before, request, outcome);
+        self.cleared(before, request);
+    }
+
+    /// An accepted call or turn.
+    fn accepted(&mut self, before: &State, request: Request, outcome: &Outcome) {
+        let n = before.count as usize;
+        let own = &before.table[request.process as usize - 1];
+        self.add_if(outcome.after.event == LAST_EVENT, "event 65,535", n);
+        let equal = |word: usize| before.table.iter().any(|words| words[word] == before.event);
+        self.add_if(equal(SEQ), "accepted with a seq as large as the event number", n);
+        self.add_if(equal(AT), "accepted with an at as large as the event number", n);
+        self.add_if(strange(own), "words that the own task does not have made 0", n);
+        for (j, words) in before.table.iter().enumerate() {
+            if j + 1 != request.process as usize {
+                let marks = words[MARKS..].iter().any(|&mark| mark > 1);
+                self.add_if(marks, "others' marks other than 0 and 1 left", n);
+                self.add_if(strange(words), "words that another task does not have left", n);
+            }
+        }
+    }
+
+    /// A call, or the answer that ends a task.
+    fn cleared(&mut self, before: &State, request: Request) {
+        let n = before.count as usize;
+        let own = &before.table[request.process as usize - 1];
+        let marks = own[MARKS + n..].iter().any(|&mark| mark != 0);
+        self.add_if(marks, "marks past n unset by a call or an answer", n);
+        let rows = own[place(SECOND, n)..FIRST_ENDED].iter().any(|&word| word != 0);
+        self.add_if(rows, "collects' rows past n that stay at a call or an answer", n);
+        let words = own[place(SECOND, 0) + VIEW + n..place(SECOND, 0) + AT].iter();
+        let words = words.chain(&own[KEPT + n..MARKS]).any(|&word| word != 0);
+        self.add_if(words, "words past n that stay where a call or an answer clears", n);
+    }
+
+    fn turned(&mut self, before: &State, request: Request, outcome: &Outcome) {
+        self.accepted(before, request, outcome);
+        match outcome.reply.kind {
+            READ => self.read(before, request, outcome),
+            PAGE_ANSWER => self.page(before, request, outcome.reply),
+            _ => self.written(before, request, outcome.reply),
+        }
+    }
+
+    fn page(&mut self, before: &State, request: Request, reply: Reply) {
+        let n = before.count as usize;
+        self.add_if(reply.lender == 0, "clean pages", n);
+        self.add_if(reply.lender != 0, "borrowed pages", n);
+        let lender = reply.lender as usize;
+        self.add_if(lender != 0, "pages borrowed from desk n, whatever the count", lender);
+        self.add_if(reply.turns == most_reads(before.count), "pages of 2n² turns", n);
+        self.add_if(before.page.len() > n, "page lists with words past n that stay", n);
+        self.add_if(before.page.len() == n, "page lists of just n words", n);
+        self.cleared(before, request);
+    }
+
+    fn written(&mut self, before: &State, request: Request, reply: Reply) {
+        let n = before.count as usize;
+        let own = &before.table[request.process as usize - 1];
+        self.add("entries written", n);
+        self.add_if(reply.turns == most_reads(before.count) + 1, "entries of 2n²+1 turns", n);
+        let words = own[KEPT + n..MARKS] != own[VIEW + n..AT];
+        self.add_if(words, "rows written with words past n that stay", n);
+        self.cleared(before, request);
+    }
+
+    fn read(&mut self, before: &State, request: Request, outcome: &Outcome) {
+        let n = before.count as usize;
+        let own = &before.table[request.process as usize - 1];
+        let after = &outcome.after.table[request.process as usize - 1];
+        let p = own[TURNS] as usize % (2 * n);
+        self.add("reads", n);
+        self.add_if(p == n - 1, "first collects ended", n);
+        let (at, row) = match p < n {
+            true => (place(FIRST, p), p),
+            false => (place(SECOND, p - n), p - n),
+        };
+        let words = own[at + VIEW + n..at + AT] != before.table[row][VIEW + n..AT];
+        self.add_if(words, "reads into places with words past n that stay", n);
+        let past = own[MARKS + n..].iter().any(|&mark| mark != 0);
+        self.add_if(past, "marks past n that stay over a read", n);
+        let marks = own[MARKS..].iter().any(|&mark| mark > 1);
+        self.add_if(marks, "own marks other than 0 and 1 made 1", n);
+        if p == 2 * n - 1 {
+            self.ended(before.count, own, after);
+        }
+    }
+
+    /// The end of a double collect that answers nothing.
+    fn ended(&mut self, count: u32, own: &Words, after: &Words) {
+        let n = count as usize;
+        if after[KIND] == READY {
+            let differs =
+                (0..n).any(|j| after[place(FIRST, j) + SEQ] != after[place(SECOND, j) + SEQ]);
+            self.add_if(differs, "entries that borrowed a page", n);
+            self.add_if(!differs, "entries that found a clean page", n);
+            let marked = (MARKS..MARKS + n).any(|mark| own[mark] == 0 && after[mark] != 0);
+            self.add_if(marked, "entries that marked a desk before the lender", n);
+            let words = own[KEPT + n..MARKS].iter().any(|&word| word != 0);
+            self.add_if(words, "kept views with words past n that stay", n);
+            return;
+        }
+        self.add("double collects ended without a page", n);
+        let last = own[TURNS] == most_reads(count) - 1;
+        let (page, entry) = (own[KIND] == PAGE, own[KIND] == ENTRY);
+        self.add_if(last && page, "pages going on past the last double collect", n);
+        self.add_if(last && entry, "entries going on past the last double collect", n);
+    }
+
+    /// Takes in what the reader finds in some bytes.
+    pub fn watch_reader(&mut self, bytes: &[u8], found: Found) {
+        let length = bytes.get(..2).map_or(0, |two| u16::from_le_bytes([two[0], two[1]]));
+        let name = match (found.refusal, found.kind) {
+            (7, _) if bytes.len() == 1 => "reader: 7 for one byte",
+            (7, _) => "reader: 7 for a short body",
+            (8, _) => "reader: 8",
+            (9, _) if (4..=8).contains(&length) => "reader: 9 for the kind",
+            (9, _) => "reader: 9 for a length outside 4 to 8",
+            (_, OPENING) => "reader: openings",
+            (_, ENTRY_CALL) => "reader: entry calls",
+            (_, PAGE_CALL) => "reader: page calls",
+            (_, TURN) => "reader: turns",
+            _ => "reader: the end",
+        };
+        self.add(name, 0);
+    }
+}
+
+/// Whether a record has words that are not of its task.
+fn strange(words: &Words) -> bool {
+    let (word, at, turns) = (words[TASK_WORD] != 0, words[TASK_AT] != 0, words[TURNS] != 0);
+    match words[KIND] {
+        IDLE => word || at || turns,
+        PAGE => word || at,
+        ENTRY => at,
+        _ => false,
+    }
+}
+
+/// The parts of 11 that a day of at least one desk meets, each once.
+fn causes(state: &State) -> Vec<&'static str> {
+    if state.count as usize > PLACES {
+        return vec![COUNT_ABOVE];
+    }
+    let most = most_reads(state.count);
+    let any = |met: &dyn Fn(&Words) -> bool| state.table.iter().any(met);
+    let turns = |words: &Words, kind: u32, most: u32| words[KIND] == kind && words[TURNS] > most;
+    let parts = [
+        (state.event > LAST_EVENT, EVENT_ABOVE),
+        (any(&|words| words[SEQ] > state.event), SEQ_ABOVE),
+        (any(&|words| words[AT] > state.event), AT_ABOVE),
+        (any(&|words| turns(words, PAGE, most - 1)), PAGE_BEYOND),
+        (any(&|words| turns(words, ENTRY, most - 1)), ENTRY_BEYOND),
+        (any(&|words| turns(words, READY, most)), READY_BEYOND),
+        (any(&|words| words[KIND] > READY), UNKNOWN_TASK),
+    ];
+    parts.iter().filter(|part| part.0).map(|part| part.1).collect()
+}

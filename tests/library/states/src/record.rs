@@ -1,0 +1,139 @@
+//! A desk record as the library's 208 words: which word is which, and the model's record packed into
+//! them and back.
+
+use model::register::{Desk, Row, Task, View, PLACES};
+
+pub const WORDS: usize = 208;
+
+/// The words of one desk record.
+pub type Words = [u32; WORDS];
+
+/// "0 word, 1 seq, 2..9 view, 10 at: the desk's row"
+pub const ROW: usize = 0;
+pub const SEQ: usize = 1;
+pub const VIEW: usize = 2;
+pub const AT: usize = 10;
+/// "rows of 11 words"
+pub const ROW_WORDS: usize = 11;
+/// "11 kind (0 idle, 1 page, 2 entry, 3 entry ready to write), 12 word, 13 at, 14 turns: its task"
+pub const KIND: usize = 11;
+pub const TASK_WORD: usize = 12;
+pub const TASK_AT: usize = 13;
+pub const TURNS: usize = 14;
+/// "15..102 first collect, 8 rows of 11 words", "103..190 second collect, likewise"
+pub const FIRST: usize = 15;
+pub const SECOND: usize = 103;
+/// "191 number of the turn that ended the first collect"
+pub const FIRST_ENDED: usize = 191;
+/// "192..199 the view that an entry has found and keeps"
+pub const KEPT: usize = 192;
+/// "200..207 marks (0: none; any other number: a mark)"
+pub const MARKS: usize = 200;
+
+/// The kinds of task.
+pub const IDLE: u32 = 0;
+pub const PAGE: u32 = 1;
+pub const ENTRY: u32 = 2;
+pub const READY: u32 = 3;
+
+/// Where row j (from 0) of a collect begins.
+pub fn place(collect: usize, j: usize) -> usize {
+    collect + j * ROW_WORDS
+}
+
+/// The model's record of these words. "Words 12, 13 (and 14) that a kind does not have are ignored."
+pub fn unpack(words: &Words) -> Desk {
+    let row = |collect| move |j| unpack_row(&words[place(collect, j)..]);
+    Desk {
+        row: unpack_row(&words[ROW..]),
+        task: unpack_task(words),
+        marks: std::array::from_fn(|j| words[MARKS + j] != 0),
+        kept: unpack_view(&words[KEPT..]),
+        first: std::array::from_fn(row(FIRST)),
+        second: std::array::from_fn(row(SECOND)),
+        first_ended: words[FIRST_ENDED],
+    }
+}
+
+/// "A task kind above 3 is a day that cannot have arisen: refusal 11, in its place in the order." The
+/// model has no such task; a page with more turns than any can have is refused just so.
+fn unpack_task(words: &Words) -> Task {
+    let (word, at, turns) = (words[TASK_WORD], words[TASK_AT], words[TURNS]);
+    match words[KIND] {
+        IDLE => Task::Idle,
+        PAGE => Task::Page { turns },
+        ENTRY => Task::Entry { turns, word },
+        READY => Task::Ready { turns, word, at },
+        _ => Task::Page { turns: u32::MAX },
+    }
+}
+
+fn unpack_row(words: &[u32]) -> Row {
+    Row { word: words[ROW], seq: words[SEQ], view: unpack_view(&words[VIEW..]), at: words[AT] }
+}
+
+fn unpack_view(words: &[u32]) -> View {
+    std::array::from_fn(|j| words[j])
+}
+
+/// The words of a record: "all 208 words, marks as 0 or 1, words that its task does not have as 0".
+pub fn pack(desk: &Desk) -> Words {
+    let mut words = [0; WORDS];
+    pack_row(&desk.row, &mut words[ROW..]);
+    let (kind, word, at, turns) = match desk.task {
+        Task::Idle => (IDLE, 0, 0, 0),
+        Task::Page { turns } => (PAGE, 0, 0, turns),
+        Task::Entry { turns, word } => (ENTRY, word, 0, turns),
+        Task::Ready { turns, word, at } => (READY, word, at, turns),
+    };
+    words[KIND] = kind;
+    words[TASK_WORD] = word;
+    words[TASK_AT] = at;
+    words[TURNS] = turns;
+    for j in 0..PLACES {
+        pack_row(&desk.first[j], &mut words[place(FIRST, j)..]);
+        pack_row(&desk.second[j], &mut words[place(SECOND, j)..]);
+        words[KEPT + j] = desk.kept[j];
+        words[MARKS + j] = u32::from(desk.marks[j]);
+    }
+    words[FIRST_ENDED] = desk.first_ended;
+    words
+}
+
+fn pack_row(row: &Row, words: &mut [u32]) {
+    words[ROW] = row.word;
+    words[SEQ] = row.seq;
+    for j in 0..PLACES {
+        words[VIEW + j] = row.view[j];
+    }
+    words[AT] = row.at;
+}
+
+/// What a word of a record is, to be read by people.
+pub fn name(word: usize) -> String {
+    match word {
+        0..KIND => format!("row, {}", row_name(word)),
+        KIND => "task's kind".to_string(),
+        TASK_WORD => "task's word".to_string(),
+        TASK_AT => "task's at".to_string(),
+        TURNS => "task's turns".to_string(),
+        FIRST..SECOND => format!("first collect, {}", collect_name(word - FIRST)),
+        SECOND..FIRST_ENDED => format!("second collect, {}", collect_name(word - SECOND)),
+        FIRST_ENDED => "turn that ended the first collect".to_string(),
+        KEPT..MARKS => format!("kept view, word {}", word - KEPT + 1),
+        _ => format!("mark {}", word - MARKS + 1),
+    }
+}
+
+fn collect_name(word: usize) -> String {
+    format!("row {}, {}", word / ROW_WORDS + 1, row_name(word % ROW_WORDS))
+}
+
+fn row_name(word: usize) -> String {
+    match word {
+        ROW => "word".to_string(),
+        SEQ => "seq".to_string(),
+        AT => "at".to_string(),
+        _ => format!("view, word {}", word - VIEW + 1),
+    }
+}

@@ -1,0 +1,62 @@
+//! What is lent to the library and what it answers.
+
+use crate::record::Words;
+
+/// A day, its table and a page list. Any words may stand in it.
+#[derive(Clone, Debug, Default, PartialEq, Eq)]
+pub struct State {
+    pub count: u32,
+    pub event: u32,
+    pub table: Vec<Words>,
+    pub page: Vec<u32>,
+}
+
+/// "kind of a request: 1 opening (process = the desk count asked for), 2 entry, 3 page call, 4 turn,
+/// as in day files".
+#[derive(Clone, Copy, Debug, PartialEq, Eq)]
+pub struct Request {
+    pub kind: u32,
+    pub process: u32,
+    pub word: u32,
+}
+
+pub const OPENING: u32 = 1;
+pub const ENTRY_CALL: u32 = 2;
+pub const PAGE_CALL: u32 = 3;
+pub const TURN: u32 = 4;
+
+/// "reply.kind: 0 refused (refusal = the paper's number), 1 opened, 2 called, 3 read, 4 page (lender,
+/// at = instant, turns), 5 written (turns). What an answer does not have is 0."
+#[derive(Clone, Copy, Debug, Default, PartialEq, Eq)]
+pub struct Reply {
+    pub kind: u32,
+    pub refusal: u32,
+    pub lender: u32,
+    pub at: u32,
+    pub turns: u32,
+}
+
+pub const REFUSED: u32 = 0;
+pub const OPENED: u32 = 1;
+pub const CALLED: u32 = 2;
+pub const READ: u32 = 3;
+pub const PAGE_ANSWER: u32 = 4;
+pub const WRITTEN: u32 = 5;
+
+/// A reply, and the state that it leaves.
+#[derive(Clone, Debug, PartialEq, Eq)]
+pub struct Outcome {
+    pub reply: Reply,
+    pub after: State,
+}
+
+/// What the reader answers: "at the ordinary end (no bytes left) everything is 0; a refusal has its
+/// number 7, 8 or 9 in refusal, the rest 0".
+#[derive(Clone, Copy, Debug, Default, PartialEq, Eq)]
+pub struct Found {
+    pub refusal: u32,
+    pub kind: u32,
+    pub process: u32,
+    pub word: u32,
+    pub next: u32,
+}

@@ -1,0 +1,86 @@
+//! What the model answers to a request on a state, and what it leaves.
+
+use crate::record::{pack, unpack, Words, WORDS};
+use crate::state::*;
+use model::dayfile::{self, Record};
+use model::register::{Day, Desk, Refusal, Turn};
+
+/// The model's outcome. "On a refusal nothing is written."
+pub fn wanted(before: &State, request: Request) -> Outcome {
+    let mut day = Day { desks: before.count, event: before.event };
+    let mut table: Vec<Desk> = before.table.iter().map(unpack).collect();
+    let mut page = before.page.clone();
+    match ask(&mut day, &mut table, &mut page, request) {
+        Err(refusal) => {
+            let reply = Reply { refusal: refusal as u32, ..Reply::default() };
+            Outcome { reply, after: before.clone() }
+        }
+        Ok(reply) => {
+            let table = written(before, request, &table);
+            Outcome { reply, after: State { count: day.desks, event: day.event, table, page } }
+        }
+    }
+}
+
+/// "any other kind gets refusal 8"; "Only a turn looks at its page list".
+fn ask(
+    day: &mut Day,
+    table: &mut [Desk],
+    page: &mut [u32],
+    request: Request,
+) -> Result<Reply, Refusal> {
+    let Request { kind, process, word } = request;
+    match kind {
+        OPENING => day.open(table, process).map(|()| plain(OPENED)),
+        ENTRY_CALL => day.entry(table, process, word).map(|()| plain(CALLED)),
+        PAGE_CALL => day.page(table, process).map(|()| plain(CALLED)),
+        TURN => day.turn(table, process, page).map(turned),
+        _ => Err(Refusal::UnknownKind),
+    }
+}
+
+fn plain(kind: u32) -> Reply {
+    Reply { kind, ..Reply::default() }
+}
+
+fn turned(turn: Turn) -> Reply {
+    match turn {
+        Turn::Read => plain(READ),
+        Turn::Page { from, at, turns } => {
+            Reply { kind: PAGE_ANSWER, refusal: 0, lender: from, at, turns }
+        }
+        Turn::Written { turns } => Reply { turns, ..plain(WRITTEN) },
+    }
+}
+
+/// "An accepted opening sets every word of every record to 0. An accepted call or turn writes the one
+/// record of its desk, all 208 words [...]; no other record is written."
+fn written(before: &State, request: Request, after: &[Desk]) -> Vec<Words> {
+    if request.kind == OPENING {
+        assert!(after.iter().all(|desk| *desk == Desk::default()), "the model's opening");
+        return vec![[0; WORDS]; after.len()];
+    }
+    let own = request.process as usize - 1;
+    for (j, words) in before.table.iter().enumerate() {
+        assert!(j == own || after[j] == unpack(words), "the model changes another record");
+    }
+    let mut table = before.table.clone();
+    table[own] = pack(&after[own]);
+    table
+}
+
+/// What the model's reader finds at the beginning of some bytes.
+pub fn found(bytes: &[u8]) -> Found {
+    let (record, next) = match dayfile::read(bytes) {
+        Err(refusal) => return Found { refusal: refusal as u32, ..Found::default() },
+        Ok(None) => return Found::default(),
+        Ok(Some((record, next))) => (record, next as u32),
+    };
+    let (kind, process, word) = match record {
+        Record::Open { desks } => (OPENING, desks, 0),
+        Record::Entry { desk, word } => (ENTRY_CALL, desk, word),
+        Record::Page { desk } => (PAGE_CALL, desk, 0),
+        Record::Turn { desk } => (TURN, desk, 0),
+    };
+    Found { refusal: 0, kind, process: process.into(), word, next }
+}
