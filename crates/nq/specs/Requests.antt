@@ -13,7 +13,7 @@ use Rattle.snapshot.specs.declared.Request.{Request}
 use Rattle.snapshot.specs.declared.Request.the-variants.{Open, Update, Scan, Turn}
 use Rattle.requests.specs.Requests.{pageAfter}
 use Rattle.unbounded.specs.declared.Process.{Process}
-use Rattle.packed.specs.Tables.{tableAfter, steppedIn}
+use Rattle.packed_table.specs.Tables.{tableAfter, steppedIn}
 use Rattle.nq.specs.declared.ReplyNumbers.{ReplyNumbers}
 use Rattle.nq.specs.Replies.{replyWith, replyNumbers}
 

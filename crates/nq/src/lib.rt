@@ -1,7 +1,6 @@
 // The register by numbers, for programs in C and Rust: a table of packed records, a request and its reply, and the reader of day
 // files. bindings/c/nelvaquist.h says what a caller has to hold to.
 use dayfile::Reading;
-use packed::table;
 use snapshot::Answer;
 use snapshot::Day;
 use snapshot::Outcome;
@@ -12,7 +11,7 @@ ghost use mathlib.Core.List.{[]};
 ghost use Rattle.snapshot.specs.Replies.{replyOf};
 ghost use Rattle.snapshot.specs.declared.Request.the-variants.{Open, Update, Scan, Turn};
 ghost use Rattle.dayfile.specs.Reader.{reading, readerReply};
-ghost use Rattle.packed.specs.Tables.{tableAfter, steppedIn};
+ghost use Rattle.packed_table.specs.Tables.{tableAfter, steppedIn};
 ghost use Rattle.nq.specs.Replies.{dayOf, replyWith, replyNumbers, Short, recordWith, requestNumbers, recordNumbers};
 ghost use Rattle.nq.specs.Requests.{requestOf, isKind, replyTo, replyIn, tableIn, pageIn};
 
@@ -114,7 +113,7 @@ pub extern "C" fn nq_step(
 {
     let day = Day { count, event };
     if is_kind(kind) {
-        return reply_of(table::step(day, table, request_of(kind, process, word), page));
+        return reply_of(packed_table::step(day, table, request_of(kind, process, word), page));
     }
     reply(day, 0, snapshot::number(Refusal::UnknownKind), 0, 0, 0)
 }
@@ -132,7 +131,7 @@ pub extern "C" fn nq_open(
         (steppedIn (dayOf count event) (now (table .entry)) (Open processes) []) ⌝ }
 {
     let mut none = [0u32; 1];
-    reply_of(table::step(
+    reply_of(packed_table::step(
         Day { count, event },
         table,
         Request::Open(processes),
@@ -154,7 +153,7 @@ pub extern "C" fn nq_entry(
         (steppedIn (dayOf count event) (now (table .entry)) (Update process word) []) ⌝ }
 {
     let mut none = [0u32; 1];
-    reply_of(table::step(
+    reply_of(packed_table::step(
         Day { count, event },
         table,
         Request::Update { process, word },
@@ -175,7 +174,7 @@ pub extern "C" fn nq_page(
         (steppedIn (dayOf count event) (now (table .entry)) (Scan process) []) ⌝ }
 {
     let mut none = [0u32; 1];
-    reply_of(table::step(
+    reply_of(packed_table::step(
         Day { count, event },
         table,
         Request::Scan(process),
@@ -198,7 +197,7 @@ pub extern "C" fn nq_turn(
     ensures { λ r. ⌜ now (page .exit) ≡
         steppedIn (dayOf count event) (now (table .entry)) (Turn process) (now (page .entry)) .page ⌝ }
 {
-    reply_of(table::step(Day { count, event }, table, Request::Turn(process), page))
+    reply_of(packed_table::step(Day { count, event }, table, Request::Turn(process), page))
 }
 
 fn record(kind: u32, process: u32, word: u32, next: u32) -> RecordNumbers

@@ -1,4 +1,3 @@
 -- That packing and unpacking undo each other.
 pub mod Words
 pub mod Packing
-pub mod Rows

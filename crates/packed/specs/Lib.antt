@@ -1,3 +1,2 @@
--- A process record as words, and a request on a table of such records. Read in this order.
+-- A process record as words.
 pub mod Packing
-pub mod Tables

@@ -3,7 +3,7 @@ use mathlib.Core.Path.{sym, ap, _∙_}
 use mathlib.Core.List.{[]}
 use Rattle.snapshot.specs.Replies.{replyOf}
 use Rattle.requests.specs.Requests.{pageAfter}
-use Rattle.packed.specs.Tables.{steppedIn, tableAfter}
+use Rattle.packed_table.specs.Tables.{steppedIn, tableAfter}
 use Rattle.nq.specs.Replies.{dayOf, replyWith, replyNumbers}
 use Rattle.nq.specs.Requests.{replyTo}
 use borrow.Author.Needs.{needs}

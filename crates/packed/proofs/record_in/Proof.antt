@@ -1,0 +1,52 @@
+-- `packed::record_in` meets its contract.
+use Rattle.packed.specs.Packing.{wordAt, unpackRecord}
+use borrow.Author.Needs.{needs}
+use Rattle.packed.proofs.record_in.Statement.{statement}
+use Rattle.packed.proofs.record_in.Tie as tie
+
+register-at-requires : tie.Need-register-at-requires
+register-at-requires c κs = search needs
+
+task-in-requires : tie.Need-task-in-requires
+task-in-requires c κs = search needs
+
+collect-at-requires : tie.Need-collect-at-requires
+collect-at-requires c κs = search needs
+
+collect-at-requires-2 : tie.Need-collect-at-requires-2
+collect-at-requires-2 c κs = search needs
+
+view-at-requires : tie.Need-view-at-requires
+view-at-requires c κs = search needs
+
+marks-at-requires : tie.Need-marks-at-requires
+marks-at-requires c κs = search needs
+
+element-copy-out-t10 : tie.Need-element-copy-out-t10
+element-copy-out-t10 c = search needs
+
+returns : tie.Need-returns
+unfolding unpackRecord
+returns c =
+    λ i. record {
+      register = c .before .before .before .before .before .before .register-at .ensures i;
+      task = c .before .before .before .before .before .task-in .ensures i;
+      first = c .before .before .before .before .collect-at .ensures i;
+      second = c .before .before .before .collect-at2 .ensures i;
+      «first_end» = wordAt (c .before .before .before .before .before .before .before .args .w .now) 191;
+      view = c .before .before .view-at .ensures i;
+      moved = c .before .marks-at .ensures i;
+    }
+
+pub record-in-spec : {M : Type 1} → statement M
+record-in-spec =
+    tie.close
+    (tie.spec
+    register-at-requires
+    task-in-requires
+    collect-at-requires
+    collect-at-requires-2
+    view-at-requires
+    marks-at-requires
+    element-copy-out-t10
+    returns)

@@ -1,0 +1,2 @@
+-- A table of packed records beside the records that they are.
+pub mod Rows

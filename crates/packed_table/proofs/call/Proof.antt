@@ -1,0 +1,92 @@
+-- `packed_table::call` meets its contract.
+use Prim.Native.Nat.{_-_, _<_}
+use native.Mathlib.Omega.{arith}
+use mathlib.Core.Path.{_≡_, sym, ap, _∙_}
+use mathlib.Core.List.{[]}
+use lib.ListN.{length, getD, set}
+use Rattle.snapshot.specs.Requests.{numberIn}
+use Rattle.unbounded.specs.declared.Process.{Process}
+use Rattle.unbounded.specs.Processes.{noProcess}
+use Rattle.unbounded_tasks.specs.Accesses.{callAccess}
+use Rattle.unbounded_tasks.specs.Tasks.{taskFor}
+use Rattle.unbounded_turns.specs.Steps.{begunBy}
+use Rattle.memory.proofs.Accepted.{call-item, admits, admits-day, admits-inside, called-leaves}
+use Rattle.packed_table.specs.Tables.{recordsIn, recordAt, packedAt}
+use Rattle.packed_table.proofs.Rows.{records-long, record-is, stored-packed}
+use borrow.Author.Needs.{needs}
+use Rattle.packed_table.proofs.call.Statement.{statement}
+use Rattle.packed_table.proofs.call.Tie as tie
+
+call-access-requires : tie.Need-call-access-requires
+call-access-requires c κs =
+    let a = c .args in
+    let ps = recordsIn (a .t .now) in
+    let item = call-item (a .x) (c .pre .0) in
+    admits-day (a .day) ps [] (a .x) item (c .pre .1)
+
+index-in-requires : tie.Need-index-in-requires
+index-in-requires c κs =
+    let start = c .before .before in
+    let a = start .args in
+    let ps = recordsIn (a .t .now) in
+    let item = call-item (a .x) (start .pre .0) in
+    admits (a .day) ps [] (a .x) item (start .pre .1) .suited .among .0
+
+task-for-requires : tie.Need-task-for-requires
+task-for-requires c κs = search needs
+
+begin-at-requires : tie.Need-begin-at-requires
+begin-at-requires c κs =
+    let start = c .before .before .before .before in
+    let a = start .args in
+    let ps = recordsIn (a .t .now) in
+    let item = call-item (a .x) (start .pre .0) in
+    let l = admits-inside (a .day) ps [] (a .x) item (start .pre .1) in
+    let long = records-long (a .t .now) in
+    let i = c .before .index-in .ensures in
+    (omega arith, c .before .before .before .call-access .ensures .1)
+
+called-requires : tie.Need-called-requires
+called-requires c κs =
+    let start = c .before .before .before .before .before .before in
+    let a = start .args in
+    let ps = recordsIn (a .t .now) in
+    let item = call-item (a .x) (start .pre .0) in
+    admits (a .day) ps [] (a .x) item (start .pre .1) .room
+
+same-length : tie.Need-same-length
+same-length c = search needs
+
+returns : tie.Need-returns
+returns c =
+    let start = c .before .before .before .before .before .before .before in
+    let a = start .args in
+    let ps = recordsIn (a .t .now) in
+    let item = call-item (a .x) (start .pre .0) in
+    let l = admits-inside (a .day) ps [] (a .x) item (start .pre .1) in
+    let long = records-long (a .t .now) in
+    let t = a .t .now in
+    let i = c .before .before .before .before .index-in .ensures in
+    let access = c .before .before .before .before .before .before .call-access .ensures .0 in
+    let task = c .before .before .before .task-for .ensures in
+    let inside : numberIn (a .x) - 1 < length t = omega arith in
+    let begun : Process → Process = begunBy (callAccess (a .day)) (taskFor (a .x)) in
+    let left = called-leaves (a .day) ps [] (a .x) (start .pre .0) in (
+      c .called .ensures ∙ left .0,
+      c .before .before .begin-at .ensures
+          ∙ (λ j. packedAt t (i j) (begunBy (access j) (task j) (recordAt t (i j))))
+          ∙ ap (λ p. packedAt t (numberIn (a .x) - 1) (begun p)) (sym (record-is t (numberIn (a .x) - 1) inside))
+          ∙ stored-packed t (a .x) (begun (getD ps (numberIn (a .x) - 1) noProcess)) _ item inside (left .1),
+    )
+
+pub call-spec : {M : Type 1} → statement M
+call-spec =
+    tie.close
+    (tie.spec
+    call-access-requires
+    index-in-requires
+    task-for-requires
+    begin-at-requires
+    called-requires
+    same-length
+    returns)

@@ -1,0 +1,195 @@
+-- `packed_table::turn_on` meets its contract.
+use Prim.Native.Nat.{_-_, _<_}
+use native.Mathlib.Omega.{arith}
+use mathlib.Core.Path.{_≡_, sym, ap, _∙_, subst}
+use mathlib.Core.List.{[]}
+use lib.ListN.{length, getD, set, drop}
+use Rattle.snapshot.specs.Requests.{numberIn}
+use Rattle.admission.specs.Outcomes.{acceptedOutcome}
+use Rattle.unbounded.specs.declared.Process.{Process}
+use Rattle.unbounded.specs.Registers.{zeroRegister}
+use Rattle.unbounded.specs.Processes.{noProcess}
+use Rattle.unbounded_tasks.specs.Accesses.{RoomFor, isReady, accessOf}
+use Rattle.unbounded_tasks.specs.Tasks.{answerBy}
+use Rattle.unbounded_finds.specs.Finds.{nothingFound, pageBy}
+use Rattle.unbounded_turns.specs.Steps.{stateBy}
+use Rattle.memory.specs.Turning.{TurnAt, readAt, foundAt}
+use Rattle.memory.proofs.Accepted.{admits, admits-inside, turn-at, page-fits, write-leaves, read-leaves}
+use Rattle.packed.specs.Packing.{unpackTask}
+use Rattle.packed_table.specs.Tables.{recordsIn, recordAt, packedAt}
+use Rattle.packed_table.proofs.Rows.{records-long, record-is, task-is, stored-packed}
+use borrow.Author.Needs.{needs}
+use Rattle.packed_table.proofs.turn_on.Statement.{statement}
+use Rattle.packed_table.proofs.turn_on.Tie as tie
+
+index-in-requires : tie.Need-index-in-requires
+index-in-requires c κs =
+    let start = c .before in
+    let a = start .args in
+    let t = a .t .now in
+    let ps = recordsIn t in
+    let h = start .pre in
+    admits (a .day) ps (a .page .now) (a .x) (h .0) (h .2) .suited .among .0
+
+mul-task-in : tie.Need-mul-task-in
+mul-task-in c =
+    let start = c .before .before in
+    let a = start .args in
+    let t = a .t .now in
+    let ps = recordsIn t in
+    let h = start .pre in
+    let l = admits-inside (a .day) ps (a .page .now) (a .x) (h .0) (h .2) in
+    let long = records-long t in
+    let i = c .index-in .ensures in
+    let inside : c .index-in .result < length t = omega arith in
+    search needs
+
+index-1-task-in : tie.Need-index-1-task-in
+index-1-task-in c =
+    let start = c .before .before in
+    let a = start .args in
+    let t = a .t .now in
+    let ps = recordsIn t in
+    let h = start .pre in
+    let l = admits-inside (a .day) ps (a .page .now) (a .x) (h .0) (h .2) in
+    let long = records-long t in
+    let i = c .index-in .ensures in
+    omega arith
+
+task-in-requires : tie.Need-task-in-requires
+task-in-requires c κs = search needs
+
+is-ready-requires : tie.Need-is-ready-requires
+is-ready-requires c κs = search needs
+
+write-turn-requires : tie.Need-write-turn-requires
+write-turn-requires c κs =
+    let start = c .before .before .before .before .before .before .before in
+    let a = start .args in
+    let t = a .t .now in
+    let ps = recordsIn t in
+    let h = start .pre in
+    let l = admits-inside (a .day) ps (a .page .now) (a .x) (h .0) (h .2) in
+    let long = records-long t in
+    let inside : numberIn (a .x) - 1 < length t = omega arith in
+    let i = c .before .before .before .before .before .index-in .ensures in
+    let task : c .before .before .before .task-in .result ≡ getD ps (numberIn (a .x) - 1) noProcess .task =
+    c .before .before .before .task-in .ensures
+    ∙ ap (λ j. unpackTask (drop 11 (getD t j []))) i
+    ∙ task-is t (numberIn (a .x) - 1) inside in
+    subst (λ z. TurnAt (a .day) ps z (c .before .before .before .task-in .result)) (sym i)
+    (subst (λ z. TurnAt (a .day) ps (numberIn (a .x) - 1) z) (sym task)
+    (turn-at (a .day) ps (a .page .now) (a .x) (h .0) (h .1) (h .2)))
+
+same-length : tie.Need-same-length
+same-length c = search needs
+
+returns : tie.Need-returns
+returns c =
+    let start = c .before .before .before .before .before .before .before .before .before in
+    let a = start .args in
+    let t = a .t .now in
+    let ps = recordsIn t in
+    let h = start .pre in
+    let l = admits-inside (a .day) ps (a .page .now) (a .x) (h .0) (h .2) in
+    let long = records-long t in
+    let inside : numberIn (a .x) - 1 < length t = omega arith in
+    let i = c .before .before .before .before .before .before .before .index-in .ensures in
+    let task : c .before .before .before .before .before .task-in .result ≡ getD ps (numberIn (a .x) - 1) noProcess .task =
+    c .before .before .before .before .before .task-in .ensures
+    ∙ ap (λ j. unpackTask (drop 11 (getD t j []))) i
+    ∙ task-is t (numberIn (a .x) - 1) inside in
+    let ready = sym (c .before .before .before .before .is-ready .ensures ∙ ap isReady task) ∙ c .before .before .before .if1 .taken in
+    let f = nothingFound 0 in
+    let k = getD ps (numberIn (a .x) - 1) noProcess .task in
+    let turned : Process → Process = λ p. stateBy (accessOf (a .day) k) zeroRegister p f k in
+    let left = write-leaves (a .day) ps (a .page .now) (a .x) (h .0) (h .1) (h .2) zeroRegister f ready in
+    let said = c .before .write-turn .ensures in (
+      said .0 ∙ ap (λ z. acceptedOutcome (a .day) (answerBy f z)) task ∙ left .0,
+      (
+        said .1
+            ∙ (λ j. packedAt t (i j) (stateBy (accessOf (a .day) (task j)) zeroRegister (recordAt t (i j)) f (task j)))
+            ∙ ap (λ p. packedAt t (numberIn (a .x) - 1) (turned p)) (sym (record-is t (numberIn (a .x) - 1) inside))
+            ∙ stored-packed t (a .x) (turned (getD ps (numberIn (a .x) - 1) noProcess)) _ (h .0) inside (left .1),
+        left .2,
+      ),
+    )
+
+read-turn-requires : tie.Need-read-turn-requires
+read-turn-requires c κs =
+    let start = c .before .before .before .before .before .before .before .before in
+    let a = start .args in
+    let t = a .t .now in
+    let ps = recordsIn t in
+    let h = start .pre in
+    let l = admits-inside (a .day) ps (a .page .now) (a .x) (h .0) (h .2) in
+    let long = records-long t in
+    let inside : numberIn (a .x) - 1 < length t = omega arith in
+    let i = c .before .before .before .before .before .before .index-in .ensures in
+    let task : c .before .before .before .before .task-in .result ≡ getD ps (numberIn (a .x) - 1) noProcess .task =
+    c .before .before .before .before .task-in .ensures
+    ∙ ap (λ j. unpackTask (drop 11 (getD t j []))) i
+    ∙ task-is t (numberIn (a .x) - 1) inside in (
+      subst (λ z. TurnAt (a .day) ps z (c .before .before .before .before .task-in .result)) (sym i)
+          (subst (λ z. TurnAt (a .day) ps (numberIn (a .x) - 1) z) (sym task)
+          (turn-at (a .day) ps (a .page .now) (a .x) (h .0) (h .1) (h .2))),
+      subst (λ z. RoomFor (accessOf (a .day) z) (a .page .now)) (sym task)
+          (page-fits (a .day) ps (a .page .now) (a .x) (h .0) (h .1) (h .2)),
+    )
+
+same-length-2 : tie.Need-same-length-2
+same-length-2 c = search needs
+
+same-length-3 : tie.Need-same-length-3
+same-length-3 c = search needs
+
+returns-2 : tie.Need-returns-2
+returns-2 c =
+    let start = c .before .before .before .before .before .before .before .before .before .before .before .before in
+    let a = start .args in
+    let t = a .t .now in
+    let ps = recordsIn t in
+    let h = start .pre in
+    let l = admits-inside (a .day) ps (a .page .now) (a .x) (h .0) (h .2) in
+    let long = records-long t in
+    let inside : numberIn (a .x) - 1 < length t = omega arith in
+    let i = c .before .before .before .before .before .before .before .before .before .before .index-in .ensures in
+    let task : c .before .before .before .before .before .before .before .before .task-in .result ≡ getD ps (numberIn (a .x) - 1) noProcess .task =
+    c .before .before .before .before .before .before .before .before .task-in .ensures
+    ∙ ap (λ j. unpackTask (drop 11 (getD t j []))) i
+    ∙ task-is t (numberIn (a .x) - 1) inside in
+    let unready = sym (c .before .before .before .before .before .before .before .is-ready .ensures ∙ ap isReady task) ∙ c .before .before .before .before .before .before .if1 .left in
+    let k = getD ps (numberIn (a .x) - 1) noProcess .task in
+    let f = foundAt (a .day) ps (numberIn (a .x) - 1) k in
+    let turned : Process → Process = λ p. stateBy (accessOf (a .day) k) (readAt (a .day) ps k) p f k in
+    let left = read-leaves (a .day) ps (a .page .now) (a .x) (h .0) (h .1) (h .2) unready in
+    let said = c .before .before .before .read-turn .ensures in (
+      said .0 ∙ (λ j. acceptedOutcome (a .day) (answerBy (foundAt (a .day) ps (i j) (task j)) (task j))) ∙ left .0,
+      (
+        said .1 .0
+            ∙ (λ j. packedAt t (i j) (stateBy (accessOf (a .day) (task j)) (readAt (a .day) ps (task j))
+            (recordAt t (i j)) (foundAt (a .day) ps (i j) (task j)) (task j)))
+            ∙ ap (λ p. packedAt t (numberIn (a .x) - 1) (turned p)) (sym (record-is t (numberIn (a .x) - 1) inside))
+            ∙ stored-packed t (a .x) (turned (getD ps (numberIn (a .x) - 1) noProcess)) _ (h .0) inside (left .1),
+        said .1 .1
+            ∙ (λ j. pageBy (accessOf (a .day) (task j)) (foundAt (a .day) ps (i j) (task j)) (task j) (a .page .now))
+            ∙ left .2,
+      ),
+    )
+
+pub turn-on-spec : {M : Type 1} → statement M
+turn-on-spec =
+    tie.close
+    (tie.spec
+    index-in-requires
+    mul-task-in
+    index-1-task-in
+    task-in-requires
+    is-ready-requires
+    write-turn-requires
+    same-length
+    returns
+    read-turn-requires
+    same-length-2
+    same-length-3
+    returns-2)

@@ -1,0 +1,2 @@
+-- A request on a table of packed records.
+pub mod Tables

@@ -1,0 +1,60 @@
+-- A table of packed records, and what a request leaves of it.
+use Prim.Native.Nat.{ℕ, _-_}
+use mathlib.Core.Bool.{Bool, true, false, cond}
+use mathlib.Core.List.{List, [], map}
+use lib.ListN.{getD, set}
+use lib.Seq.{sets}
+use Rattle.snapshot.specs.Demand.{Result}
+use Rattle.snapshot.specs.Days.{State}
+use Rattle.snapshot.specs.declared.Day.{Day}
+use Rattle.snapshot.specs.declared.Answer.{Answer}
+use Rattle.snapshot.specs.declared.Answer.the-variants.{Refused, Opened, Called, Read, Page, Written}
+use Rattle.snapshot.specs.declared.Request.{Request}
+use Rattle.snapshot.specs.declared.Request.the-variants.{Open, Update, Scan, Turn}
+use Rattle.unbounded.specs.declared.Process.{Process}
+use Rattle.unbounded.specs.Processes.{noProcess}
+use Rattle.unbounded.specs.Days.{stepped}
+use Rattle.requests.specs.Requests.{itemOf}
+use Rattle.memory.specs.Tables.{stateOf}
+use Rattle.packed.specs.Packing.{packRecord, unpackRecord}
+
+-- the records that the words are
+abbrev pub recordsIn : List (List ℕ) → List Process
+recordsIn t = map unpackRecord t
+
+abbrev pub recordAt : List (List ℕ) → ℕ → Process
+recordAt t i = unpackRecord (getD t i [])
+
+-- p packed over the words of a record, all 208 of which it replaces
+abbrev pub packedOver : List ℕ → Process → List ℕ
+packedOver ws p = sets ws 0 (packRecord p)
+
+-- the words once record i is p, and once it is that of ps
+abbrev pub packedAt : List (List ℕ) → ℕ → Process → List (List ℕ)
+packedAt t i p = set t i (packedOver (getD t i []) p)
+
+abbrev pub changed : List (List ℕ) → ℕ → List Process → List (List ℕ)
+changed t i ps = packedAt t i (getD ps i noProcess)
+
+-- the words after an accepted request, which left the records ps: an opening packs all, a call or a turn that of its process
+abbrev pub packedBy : List (List ℕ) → Request → List Process → List (List ℕ)
+packedBy t (Open k) ps = map packRecord ps
+packedBy t (Update d w) ps = changed t (d - 1) ps
+packedBy t (Scan d) ps = changed t (d - 1) ps
+packedBy t (Turn d) ps = changed t (d - 1) ps
+
+abbrev pub isRefused : Answer → Bool
+isRefused (Refused k) = true
+isRefused Opened = false
+isRefused Called = false
+isRefused Read = false
+isRefused (Page lender at turns) = false
+isRefused (Written turns) = false
+
+-- the words after a request with result r; a refusal leaves them
+abbrev pub tableAfter : List (List ℕ) → Request → Result (State Process) → List (List ℕ)
+tableAfter t x r = cond (isRefused (r .answer)) t (packedBy t x (r .state .table))
+
+-- the step of the definitions on the records that the words are
+abbrev pub steppedIn : Day → List (List ℕ) → Request → (page : List ℕ) → Result (State Process)
+steppedIn d t x page = stepped (stateOf d (recordsIn t)) (itemOf page x)
