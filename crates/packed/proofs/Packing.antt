@@ -1,6 +1,5 @@
--- Packing and unpacking undo each other: a record whose arrays have their eight places is unpacked as it was (`unpack-packed`), and
--- words that a record can be are packed as they were (`pack-unpacked`).
-use Prim.Native.Nat.{ℕ, zero, suc, _+_, _*_, _≤_, _<_}
+-- A record whose arrays have their eight places is unpacked as it was packed (`unpack-packed`).
+use Prim.Native.Nat.{ℕ, zero, suc, _+_, _*_, _<_}
 use native.Mathlib.Nat.{zero-add}
 use native.Mathlib.Omega.{arith}
 use mathlib.Core.Path.{_≡_, refl, sym, ap, ap₂, subst, _∙_}

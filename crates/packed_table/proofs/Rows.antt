@@ -5,11 +5,11 @@ use native.Mathlib.Omega.{arith}
 use native.Mathlib.Numerals.{add-one}
 use mathlib.Core.Path.{_≡_, refl, sym, ap, _∙_, subst}
 use mathlib.Core.Bool.{Bool, true, false, not, cond}
-use mathlib.Core.List.{List, [], _∷_, _++_, map, foldl, append-assoc, append-nil}
+use mathlib.Core.List.{List, [], _∷_, _++_, map, foldl, append-nil}
 use mathlib.Core.Option.{Option, none, some}
 use lib.Dec.{T}
-use lib.ListN.{length, getD, set, take, drop, replicate, length-append, length-map}
-use lib.Seq.{sets, drop-cons, take-at, drop-at, drop-append-add, getD-set-same, take-all, drop-length}
+use lib.ListN.{length, getD, set, drop, replicate, length-map}
+use lib.Seq.{sets, drop-cons, getD-set-same, take-all, drop-length}
 use Rattle.snapshot.specs.Lists.{over}
 use Rattle.snapshot.specs.Requests.{numberIn}
 use Rattle.snapshot.specs.Demand.{Result}

@@ -7,6 +7,7 @@ use admission::outcomes;
 use snapshot::Day;
 use snapshot::Outcome;
 use snapshot::Request;
+use unbounded::Process;
 use unbounded::Register;
 use unbounded::Task;
 use unbounded_finds::collects;
@@ -19,11 +20,11 @@ use unbounded_tasks::tasks;
 use unbounded_turns::records;
 ghost use mathlib.Core.Path.{_≡_};
 ghost use mathlib.Core.Bool.{not};
-ghost use mathlib.Core.List.{List, [], map, foldl};
+ghost use mathlib.Core.List.{[], map, foldl};
 ghost use mathlib.Core.Option.{none};
 ghost use Prim.Native.Nat.{_<_};
 ghost use lib.Dec.{T};
-ghost use lib.ListN.{length, getD, set};
+ghost use lib.ListN.{length};
 ghost use Rattle.snapshot.specs.Days.{openFor};
 ghost use Rattle.snapshot.specs.declared.Request.the-variants.{Open};
 ghost use Rattle.requests.specs.Requests.{itemOf, pageAfter, isOpening, isCall};
@@ -35,7 +36,7 @@ ghost use Rattle.unbounded.specs.Days.{stepped};
 ghost use Rattle.unbounded_tasks.specs.Accesses.{Sound, RoomFor, accessOf};
 ghost use Rattle.unbounded_tasks.specs.Tasks.{answerBy};
 ghost use Rattle.unbounded_tasks.specs.Surveys.{surveyedBy};
-ghost use Rattle.unbounded_finds.specs.Finds.{nothingFound, findOf, pageBy};
+ghost use Rattle.unbounded_finds.specs.Finds.{nothingFound, pageBy};
 ghost use Rattle.unbounded_turns.specs.Steps.{begunBy, stateBy};
 ghost use Rattle.memory.specs.Tables.{stateOf, outcomeOf, refusalIn, acceptedIn, RefusedBy};
 ghost use Rattle.memory.specs.Turning.{Turning, TurnAt, readAt, foundAt};
@@ -99,12 +100,11 @@ fn begin_at(t: &mut [[u32; 208]], i: usize, a: Access, k: Task)
     packed::lay_task(&mut t[i], k);
 }
 
-// The turn of record i: its access read r and found f.
-fn turn_at(t: &mut [[u32; 208]], i: usize, a: Access, r: Register, f: Find)
-    requires { ⌜ (i < length (now t)) × Turning a f (recordAt (now t) i) ⌝ }
-    ensures { λ _. ⌜ now (t .exit) ≡ packedAt (now (t .entry)) i (stateBy a r (recordAt (now (t .entry)) i) f (recordAt (now (t .entry)) i .task)) ⌝ }
+// The turn of record i, which is p: its access read r and found f.
+fn turn_at(t: &mut [[u32; 208]], i: usize, a: Access, r: Register, f: Find, p: Process)
+    requires { ⌜ (i < length (now t)) × Turning a f p ⌝ }
+    ensures { λ _. ⌜ now (t .exit) ≡ packedAt (now (t .entry)) i (stateBy a r p f (p .task)) ⌝ }
 {
-    let p = packed::record_in(&t[i]);
     let k = p.task;
     if tasks::ends(k, f) {
         let own = records::written(a, p);
@@ -139,7 +139,8 @@ fn write_turn(day: Day, t: &mut [[u32; 208]], i: usize, k: Task) -> Outcome
 {
     let a = accesses::access_of(day, k);
     let f = finds::nothing_found();
-    turn_at(t, i, a, collects::no_register(), f);
+    let p = packed::record_in(&t[i]);
+    turn_at(t, i, a, collects::no_register(), f, p);
     outcomes::accepted(day, tasks::answer(k, f))
 }
 
@@ -159,7 +160,7 @@ fn read_turn(day: Day, t: &mut [[u32; 208]], i: usize, k: Task, page: &mut [u32]
     let p = packed::record_in(&t[i]);
     let f = finds::find_page(a, r, p);
     finds::lay_page(a, k, f, page);
-    turn_at(t, i, a, r, f);
+    turn_at(t, i, a, r, f, p);
     outcomes::accepted(day, tasks::answer(k, f))
 }
 

@@ -1,9 +1,9 @@
 -- `packed_table::call` meets its contract.
 use Prim.Native.Nat.{_-_, _<_}
 use native.Mathlib.Omega.{arith}
-use mathlib.Core.Path.{_≡_, sym, ap, _∙_}
+use mathlib.Core.Path.{sym, ap, _∙_}
 use mathlib.Core.List.{[]}
-use lib.ListN.{length, getD, set}
+use lib.ListN.{length, getD}
 use Rattle.snapshot.specs.Requests.{numberIn}
 use Rattle.unbounded.specs.declared.Process.{Process}
 use Rattle.unbounded.specs.Processes.{noProcess}

@@ -1,5 +1,5 @@
 -- `packed_table::open` meets its contract.
-use mathlib.Core.Path.{_≡_, sym, ap, _∙_}
+use mathlib.Core.Path.{sym, ap, _∙_}
 use mathlib.Core.List.{map}
 use Rattle.snapshot.specs.Days.{openFor}
 use Rattle.snapshot.specs.declared.Request.the-variants.{Open}

@@ -1,7 +1,7 @@
 -- `packed_table::plan` meets its contract.
 use Prim.Native.Nat.{_-_, _<_}
 use native.Mathlib.Omega.{arith}
-use mathlib.Core.Path.{_≡_, sym, ap, _∙_}
+use mathlib.Core.Path.{sym, ap, _∙_}
 use mathlib.Core.List.{[], foldl}
 use lib.ListN.{length, getD, drop}
 use Rattle.snapshot.specs.Requests.{numberIn}

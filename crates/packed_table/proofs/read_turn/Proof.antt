@@ -1,8 +1,7 @@
 -- `packed_table::read_turn` meets its contract.
-use Prim.Native.Nat.{_<_}
 use native.Mathlib.Omega.{arith}
 use mathlib.Core.Path.{_≡_, sym, ap, _∙_, subst}
-use lib.ListN.{getD, set}
+use lib.ListN.{getD}
 use Rattle.admission.specs.Outcomes.{acceptedOutcome}
 use Rattle.unbounded.specs.Processes.{noProcess}
 use Rattle.unbounded_tasks.specs.Accesses.{RoomFor, readsIn}
@@ -10,8 +9,8 @@ use Rattle.unbounded_tasks.specs.Tasks.{answerBy}
 use Rattle.unbounded_finds.specs.Finds.{findOf, pageBy}
 use Rattle.unbounded_turns.specs.Steps.{stateBy}
 use Rattle.unbounded_turns.proofs.Steps.{access-count}
-use Rattle.memory.specs.Turning.{readAt, foundAt}
-use Rattle.packed_table.specs.Tables.{recordsIn, recordAt, packedAt}
+use Rattle.memory.specs.Turning.{Turning, readAt, foundAt}
+use Rattle.packed_table.specs.Tables.{recordsIn, packedAt}
 use Rattle.packed_table.proofs.Rows.{records-long, record-is, register-is, turn-inside, turn-task, turning-at}
 use borrow.Author.Needs.{needs}
 use Rattle.packed_table.proofs.read_turn.Statement.{statement}
@@ -70,11 +69,11 @@ turn-at-requires : tie.Need-turn-at-requires
 turn-at-requires c κs =
     let start = c .before .before .before .before .before .before .before .before .before .before .before .before .before in
     let a = start .args in
-    let inside = turn-inside (a .day) (a .t .now) (a .i) (a .k) (start .pre .0) in
-    let find = c .before .before .before .before .before .find-page in (
-      inside,
-      turning-at (a .day) (a .t .now) (a .i) (a .k) (start .pre .0) _ (find .result) (c .before .before .before .before .before .before .before .before .before .before .before .access-of .ensures .1)
-          (find .ensures .1),
+    let find = c .before .before .before .before .before .find-page in
+    let sound = c .before .before .before .before .before .before .before .before .before .before .before .access-of .ensures .1 in (
+      turn-inside (a .day) (a .t .now) (a .i) (a .k) (start .pre .0),
+      subst (Turning _ (find .result)) (sym (c .before .before .before .before .before .before .record-in .ensures))
+          (turning-at (a .day) (a .t .now) (a .i) (a .k) (start .pre .0) _ (find .result) sound (find .ensures .1)),
     )
 
 answer-requires : tie.Need-answer-requires
@@ -101,7 +100,8 @@ returns c =
     let t = a .t .now in
     let ps = recordsIn t in
     let inside = turn-inside (a .day) t (a .i) (a .k) (start .pre .0) in
-    let task = turn-task (a .day) t (a .i) (a .k) (start .pre .0) in
+    let p = c .before .before .before .before .before .before .before .before .before .before .record-in .ensures in
+    let task = ap (λ q. q .task) p ∙ turn-task (a .day) t (a .i) (a .k) (start .pre .0) in
     let place = c .before .before .before .before .before .before .before .before .before .before .before .before .before .before .place-of in
     let own = c .before .before .before .before .before .before .before .before .before .before .before .before .own-in in
     let find = c .before .before .before .before .before .before .before .before .before .find-page in
@@ -117,7 +117,7 @@ returns c =
           ∙ ap (acceptedOutcome (a .day)) (c .before .answer .ensures ∙ ap (λ f. answerBy f (a .k)) found),
       (
         c .before .before .before .turn-at .ensures
-            ∙ (λ z. packedAt t (a .i) (stateBy (by z) (read z) (recordAt t (a .i)) (found z) (task z))),
+            ∙ (λ z. packedAt t (a .i) (stateBy (by z) (read z) (p z) (found z) (task z))),
         c .before .before .before .before .before .before .before .lay-page .ensures ∙ (λ z. pageBy (by z) (found z) (a .k) (a .page .now)),
       ),
     )

@@ -1,5 +1,5 @@
 -- `packed_table::step` meets its contract.
-use mathlib.Core.Path.{_≡_, refl, sym, ap, _∙_}
+use mathlib.Core.Path.{refl, sym, ap, _∙_}
 use Rattle.snapshot.specs.Days.{openFor}
 use Rattle.snapshot.specs.declared.Request.the-variants.{Open}
 use Rattle.requests.specs.Requests.{itemOf}

@@ -1,12 +1,10 @@
 -- `packed_table::turn_at` meets its contract.
-use Prim.Native.Nat.{_<_}
-use mathlib.Core.Path.{_≡_, sym, ap, _∙_, subst}
+use mathlib.Core.Path.{_≡_, sym, ap, _∙_}
 use mathlib.Core.List.{[]}
 use lib.ListN.{length, getD, set, length-map}
 use lib.Seq.{sets, set-set, getD-set-same, lt-length-set}
 use denote.Struct.Field.{u32-field}
-use Rattle.unbounded.specs.Processes.{turnsOf}
-use Rattle.unbounded_turns.specs.Steps.{withTask, writtenBy, stateBy}
+use Rattle.unbounded_turns.specs.Steps.{withTask, writtenBy}
 use Rattle.unbounded_turns.proofs.Steps.{state-ended, state-went-on}
 use Rattle.unbounded_turns.proofs.Parts.{withRegister}
 use Rattle.packed.specs.Packing.{packRegister, packTask}
@@ -16,24 +14,11 @@ use borrow.Author.Needs.{needs}
 use Rattle.packed_table.proofs.turn_at.Statement.{statement}
 use Rattle.packed_table.proofs.turn_at.Tie as tie
 
-mul-record-in : tie.Need-mul-record-in
-mul-record-in c = search needs
-
-index-1-record-in : tie.Need-index-1-record-in
-index-1-record-in c = search needs
-
-record-in-requires : tie.Need-record-in-requires
-record-in-requires c κs = search needs
-
 ends-requires : tie.Need-ends-requires
 ends-requires c κs = search needs
 
 written-requires : tie.Need-written-requires
-written-requires c κs =
-    let start = c .before .before .before .before in (
-      start .pre .1 .sound .small,
-      subst (λ p. p .register .seq < 4294967295) (sym (c .before .before .record-in .ensures)) (start .pre .1 .seq),
-    )
+written-requires c κs = search needs
 
 begun-requires : tie.Need-begun-requires
 begun-requires c κs = search needs
@@ -73,11 +58,11 @@ same-length c = search needs
 
 returns : tie.Need-returns
 returns c =
-    let start = c .before .before .before .before .before .before .before .before .before .before .before .before .before in
+    let start = c .before .before .before .before .before .before .before .before .before .before .before in
     let a = start .args in
     let t = a .t .now in
     let row = getD t (a .i) [] in
-    let p = c .before .before .before .before .before .before .before .before .before .before .before .record-in in
+    let p = a .p in
     let own = c .before .before .before .before .before .before .before .before .written in
     let b = c .before .before .before .before .before .before .before .begun in
     let whole = c .before .before .before .before .before .lay-record in
@@ -101,9 +86,8 @@ returns c =
     ∙ own-laid row (b .result) (own .result) words own-words)
     ∙ task-laid row (withRegister (own .result) (b .result)) (none .result) own-words
     ∙ (λ j. packedOver row (withTask (none .ensures j) (withRegister (own .ensures j) (b .ensures j))))
-    ∙ ap (packedOver row) (ended-parts (a .a) (writtenBy (a .a) (p .result) (p .result .task)) (p .result)
-    ∙ state-ended (a .a) (a .r) (p .result) (a .f) (p .result .task) ended)
-    ∙ ap (λ q. packedOver row (stateBy (a .a) (a .r) q (a .f) (q .task))) (p .ensures))
+    ∙ ap (packedOver row) (ended-parts (a .a) (writtenBy (a .a) (p) (p .task)) (p)
+    ∙ state-ended (a .a) (a .r) (p) (a .f) (p .task) ended))
 
 read-requires : tie.Need-read-requires
 read-requires c κs = search needs
@@ -124,8 +108,7 @@ index-1-lay-task-2 : tie.Need-index-1-lay-task-2
 index-1-lay-task-2 c = search needs
 
 task-after-requires : tie.Need-task-after-requires
-task-after-requires c κs =
-    subst (λ p. turnsOf (p .task) < 4294967295) (sym (c .before .before .before .before .before .before .record-in .ensures)) (c .before .before .before .before .before .before .before .before .pre .1 .turns)
+task-after-requires c κs = search needs
 
 lay-task-requires-2 : tie.Need-lay-task-requires-2
 lay-task-requires-2 c κs = search needs
@@ -135,11 +118,11 @@ same-length-2 c = search needs
 
 returns-2 : tie.Need-returns-2
 returns-2 c =
-    let start = c .before .before .before .before .before .before .before .before .before .before in
+    let start = c .before .before .before .before .before .before .before .before in
     let a = start .args in
     let t = a .t .now in
     let row = getD t (a .i) [] in
-    let p = c .before .before .before .before .before .before .before .before .record-in in
+    let p = a .p in
     let b = c .before .before .before .before .before .read in
     let whole = c .before .before .before .lay-record2 in
     let task = c .before .task-after in
@@ -153,16 +136,12 @@ returns-2 c =
     (getD-set-same t (a .i) (whole .last .0) [] (start .pre .0) ∙ whole .ensures)
     ∙ task-laid row (b .result) (task .result) words
     ∙ (λ j. packedOver row (withTask (task .ensures j) (b .ensures j)))
-    ∙ ap (packedOver row) (state-went-on (a .a) (a .r) (p .result) (a .f) (p .result .task) goes-on)
-    ∙ ap (λ q. packedOver row (stateBy (a .a) (a .r) q (a .f) (q .task))) (p .ensures))
+    ∙ ap (packedOver row) (state-went-on (a .a) (a .r) (p) (a .f) (p .task) goes-on))
 
 pub turn-at-spec : {M : Type 1} → statement M
 turn-at-spec =
     tie.close
     (tie.spec
-    mul-record-in
-    index-1-record-in
-    record-in-requires
     ends-requires
     written-requires
     begun-requires

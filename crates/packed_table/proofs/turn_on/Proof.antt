@@ -3,7 +3,7 @@ use Prim.Native.Nat.{_-_, _<_}
 use native.Mathlib.Omega.{arith}
 use mathlib.Core.Path.{_≡_, sym, ap, _∙_, subst}
 use mathlib.Core.List.{[]}
-use lib.ListN.{length, getD, set, drop}
+use lib.ListN.{length, getD, drop}
 use Rattle.snapshot.specs.Requests.{numberIn}
 use Rattle.admission.specs.Outcomes.{acceptedOutcome}
 use Rattle.unbounded.specs.declared.Process.{Process}
