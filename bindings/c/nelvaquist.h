@@ -63,7 +63,7 @@ enum {
 
 /* Why a request or a day file is refused. The numbers stay as they are; later versions may add some.
  *
- * Where several apply, the first in this order is given. Opening: 10, 1, 6. Call or turn: 10, 6, 11,
+ * Where several apply, the first in this order is given. A kind that is none: 8. Opening: 10, 1, 6. Call or turn: 10, 6, 11,
  * 2, then 3 or 4, then 5. Day file: 7 if one byte is left, 9 if the length is outside 4 to 8, 7, 8,
  * then 9. */
 enum {
@@ -86,7 +86,8 @@ enum {
 
 /* Where the parts of a desk record begin. A row has NQ_ROW_WORDS words, a collect 8 rows, a view 8
  * words, the marks 8; anything else is one word. On a day for n desks the first n rows of a collect,
- * words of a view and marks count. */
+ * words of a view and marks count; rows and words past n stay until an opening, marks past n become 0
+ * with the others. */
 enum {
     /* in the desk's own row; in a row of a collect, from where that row begins */
     NQ_ROW_WORD = 0,
@@ -139,7 +140,7 @@ struct nq_record {
  * opening sets every word of every record to 0. An accepted call or turn adds 1 to the event number
  * and writes the record of its desk, no other; there, task words that the task does not have become
  * 0, and marks 0 or 1. Only a turn looks at a page list, and only one that is answered NQ_PAGE_SHOWN
- * writes it: its first n words become those of rows 1 to n. */
+ * writes it: its first n words become those that stood in rows 1 to n at instant `at`. */
 
 /* Opens a day for that many desks. The table has that many records. */
 struct nq_reply nq_open(uint32_t count, uint32_t event, uint32_t (*table)[NQ_RECORD_WORDS],

@@ -1,5 +1,5 @@
--- Answers as numbers: the paper's number and values of each case (`replyOf`, `readerReply`), each in its place, and 0 where a case has
--- none.
+-- Answers as numbers: the paper's number of a refusal and the values of each case (`replyOf`, `readerReply`), each in its place, and 0
+-- where a case has none. The kinds of answer, 0 to 5, are the library's own; those of records are the day file's.
 use Prim.Native.Nat.{ℕ, _≤_}
 use Rattle.snapshot.specs.Replies.{Reply, refused, opened, called, read, page, written}
 use Rattle.snapshot.specs.declared.Day.{Day}
@@ -13,8 +13,8 @@ use Rattle.nq.specs.declared.ReplyNumbers.{ReplyNumbers}
 use Rattle.nq.specs.declared.RecordNumbers.{RecordNumbers}
 
 -- the day that two numbers are
-abbrev pub dayOf : (count event : ℕ) → Day
-dayOf count event = record { count = count; event = event }
+abbrev pub dayWith : (count event : ℕ) → Day
+dayWith count event = record { count = count; event = event }
 
 -- a reply, and the day after it
 abbrev pub replyWith : Day → (kind refusal lender at turns : ℕ) → ReplyNumbers

@@ -17,9 +17,10 @@ use Rattle.packed_table.specs.Tables.{tableAfter, steppedIn}
 use Rattle.nq.specs.declared.ReplyNumbers.{ReplyNumbers}
 use Rattle.nq.specs.Replies.{replyWith, replyNumbers}
 
--- the kinds are those of day files; an opening has the number asked for in its process
-abbrev pub requestOf : (kind process word : ℕ) → Request
-requestOf k d w = cond (eqb k 1) (Open d) (cond (eqb k 2) (Update d w) (cond (eqb k 3) (Scan d) (Turn d)))
+-- the kinds are those of day files; an opening has the number asked for in its process. Any other number stands for a turn here:
+-- `isKind` is asked first
+abbrev pub requestNumbered : (kind process word : ℕ) → Request
+requestNumbered k d w = cond (eqb k 1) (Open d) (cond (eqb k 2) (Update d w) (cond (eqb k 3) (Scan d) (Turn d)))
 
 abbrev pub isKind : ℕ → Bool
 isKind k = not (outside 1 4 k)
@@ -32,13 +33,13 @@ replyTo r = replyNumbers (r .state .day) (replyOf [] (r .answer))
 -- is refused with 8
 module _ (d : Day) (t : List (List ℕ)) (kind process word : ℕ) (page : List ℕ) where
   abbrev pub resultOf : Result (State Process)
-  resultOf = steppedIn d t (requestOf kind process word) page
+  resultOf = steppedIn d t (requestNumbered kind process word) page
 
   abbrev pub replyIn : ReplyNumbers
   replyIn = cond (isKind kind) (replyTo resultOf) (replyWith d 0 (numberOf UnknownKind) 0 0 0)
 
   abbrev pub tableIn : List (List ℕ)
-  tableIn = cond (isKind kind) (tableAfter t (requestOf kind process word) resultOf) t
+  tableIn = cond (isKind kind) (tableAfter t (requestNumbered kind process word) resultOf) t
 
   abbrev pub pageIn : List ℕ
-  pageIn = cond (isKind kind) (pageAfter page resultOf (requestOf kind process word)) page
+  pageIn = cond (isKind kind) (pageAfter page resultOf (requestNumbered kind process word)) page

@@ -12,8 +12,8 @@ ghost use Rattle.snapshot.specs.Replies.{replyOf};
 ghost use Rattle.snapshot.specs.declared.Request.the-variants.{Open, Update, Scan, Turn};
 ghost use Rattle.dayfile.specs.Reader.{reading, readerReply};
 ghost use Rattle.packed_table.specs.Tables.{tableAfter, steppedIn};
-ghost use Rattle.nq.specs.Replies.{dayOf, replyWith, replyNumbers, Short, recordWith, requestNumbers, recordNumbers};
-ghost use Rattle.nq.specs.Requests.{requestOf, isKind, replyTo, replyIn, tableIn, pageIn};
+ghost use Rattle.nq.specs.Replies.{dayWith, replyWith, replyNumbers, Short, recordWith, requestNumbers, recordNumbers};
+ghost use Rattle.nq.specs.Requests.{requestNumbered, isKind, replyTo, replyIn, tableIn, pageIn};
 
 // The day after a request, the kind of its answer (0 refused, 1 opened, 2 called, 3 read, 4 page, 5 written), the number of the
 // refusal, the lender and the instant of a page, and the turns of a task.
@@ -68,7 +68,7 @@ fn reply_of(o: Outcome) -> ReplyNumbers
 }
 
 fn request_of(kind: u32, process: u32, word: u32) -> Request
-    ensures { λ x. ⌜ x ≡ requestOf kind process word ⌝ }
+    ensures { λ x. ⌜ x ≡ requestNumbered kind process word ⌝ }
 {
     if kind == 1 {
         return Request::Open(process);
@@ -105,11 +105,11 @@ pub extern "C" fn nq_step(
     word: u32,
     page: &mut [u32],
 ) -> ReplyNumbers
-    ensures { λ r. ⌜ r ≡ replyIn (dayOf count event) (now (table .entry)) kind process word (now (page .entry)) ⌝ }
+    ensures { λ r. ⌜ r ≡ replyIn (dayWith count event) (now (table .entry)) kind process word (now (page .entry)) ⌝ }
     ensures { λ r. ⌜ now (table .exit) ≡
-        tableIn (dayOf count event) (now (table .entry)) kind process word (now (page .entry)) ⌝ }
+        tableIn (dayWith count event) (now (table .entry)) kind process word (now (page .entry)) ⌝ }
     ensures { λ r. ⌜ now (page .exit) ≡
-        pageIn (dayOf count event) (now (table .entry)) kind process word (now (page .entry)) ⌝ }
+        pageIn (dayWith count event) (now (table .entry)) kind process word (now (page .entry)) ⌝ }
 {
     let day = Day { count, event };
     if is_kind(kind) {
@@ -126,9 +126,9 @@ pub extern "C" fn nq_open(
     table: &mut [[u32; 208]],
     processes: u32,
 ) -> ReplyNumbers
-    ensures { λ r. ⌜ r ≡ replyTo (steppedIn (dayOf count event) (now (table .entry)) (Open processes) []) ⌝ }
+    ensures { λ r. ⌜ r ≡ replyTo (steppedIn (dayWith count event) (now (table .entry)) (Open processes) []) ⌝ }
     ensures { λ r. ⌜ now (table .exit) ≡ tableAfter (now (table .entry)) (Open processes)
-        (steppedIn (dayOf count event) (now (table .entry)) (Open processes) []) ⌝ }
+        (steppedIn (dayWith count event) (now (table .entry)) (Open processes) []) ⌝ }
 {
     let mut none = [0u32; 1];
     reply_of(packed_table::step(
@@ -148,9 +148,9 @@ pub extern "C" fn nq_entry(
     process: u32,
     word: u32,
 ) -> ReplyNumbers
-    ensures { λ r. ⌜ r ≡ replyTo (steppedIn (dayOf count event) (now (table .entry)) (Update process word) []) ⌝ }
+    ensures { λ r. ⌜ r ≡ replyTo (steppedIn (dayWith count event) (now (table .entry)) (Update process word) []) ⌝ }
     ensures { λ r. ⌜ now (table .exit) ≡ tableAfter (now (table .entry)) (Update process word)
-        (steppedIn (dayOf count event) (now (table .entry)) (Update process word) []) ⌝ }
+        (steppedIn (dayWith count event) (now (table .entry)) (Update process word) []) ⌝ }
 {
     let mut none = [0u32; 1];
     reply_of(packed_table::step(
@@ -169,9 +169,9 @@ pub extern "C" fn nq_page(
     table: &mut [[u32; 208]],
     process: u32,
 ) -> ReplyNumbers
-    ensures { λ r. ⌜ r ≡ replyTo (steppedIn (dayOf count event) (now (table .entry)) (Scan process) []) ⌝ }
+    ensures { λ r. ⌜ r ≡ replyTo (steppedIn (dayWith count event) (now (table .entry)) (Scan process) []) ⌝ }
     ensures { λ r. ⌜ now (table .exit) ≡ tableAfter (now (table .entry)) (Scan process)
-        (steppedIn (dayOf count event) (now (table .entry)) (Scan process) []) ⌝ }
+        (steppedIn (dayWith count event) (now (table .entry)) (Scan process) []) ⌝ }
 {
     let mut none = [0u32; 1];
     reply_of(packed_table::step(
@@ -191,11 +191,11 @@ pub extern "C" fn nq_turn(
     process: u32,
     page: &mut [u32],
 ) -> ReplyNumbers
-    ensures { λ r. ⌜ r ≡ replyTo (steppedIn (dayOf count event) (now (table .entry)) (Turn process) (now (page .entry))) ⌝ }
+    ensures { λ r. ⌜ r ≡ replyTo (steppedIn (dayWith count event) (now (table .entry)) (Turn process) (now (page .entry))) ⌝ }
     ensures { λ r. ⌜ now (table .exit) ≡ tableAfter (now (table .entry)) (Turn process)
-        (steppedIn (dayOf count event) (now (table .entry)) (Turn process) (now (page .entry))) ⌝ }
+        (steppedIn (dayWith count event) (now (table .entry)) (Turn process) (now (page .entry))) ⌝ }
     ensures { λ r. ⌜ now (page .exit) ≡
-        steppedIn (dayOf count event) (now (table .entry)) (Turn process) (now (page .entry)) .page ⌝ }
+        steppedIn (dayWith count event) (now (table .entry)) (Turn process) (now (page .entry)) .page ⌝ }
 {
     reply_of(packed_table::step(Day { count, event }, table, Request::Turn(process), page))
 }

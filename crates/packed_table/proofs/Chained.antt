@@ -39,7 +39,7 @@ use Rattle.unbounded.proofs.Demand3.{ascending-permutes}
 use Rattle.memory.specs.Tables.{stateOf, refusalIn, acceptedIn}
 use Rattle.memory.proofs.Accepted.{stepped-accepted, admits, admits-inside}
 use Rattle.packed.specs.Packing.{packRecord, unpackRecord, unpackCollect}
-use Rattle.packed_table.specs.Tables.{recordsIn, packedOver, packedAt, packedBy, isRefused, tableAfter, steppedIn}
+use Rattle.packed_table.specs.Tables.{unpackedAll, packedOver, packedAt, packedBy, isRefused, tableAfter, steppedIn}
 use Rattle.packed.proofs.Words.{sets-all}
 use Rattle.packed.proofs.Packing.{packed-long, unpack-packed}
 use Rattle.packed_table.proofs.Rows.{records-long, record-is, zero-words, stored-packed, after-accepted, turn-accepted}
@@ -69,7 +69,7 @@ unpack-whole ws =
     (record { register = refl; view = refl; first = collect-whole (drop 15 ws); second = collect-whole (drop 103 ws) }, refl)
 
 -- and so has every record of a table of words
-pub records-whole : (t : List (List ℕ)) (i : ℕ) → i < length t → Eights (getD (recordsIn t) i noProcess)
+pub records-whole : (t : List (List ℕ)) (i : ℕ) → i < length t → Eights (getD (unpackedAll t) i noProcess)
 records-whole t i l = subst Eights (sym (record-is t i l)) (unpack-whole (getD t i []))
 
 zero-unpacked : unpackRecord (packRecord zeroProcess) ≡ zeroProcess
@@ -124,10 +124,10 @@ over-unpacked ws q long e =
     ap unpackRecord (sets-all ws (packRecord q) (packed-long q (e .0) (e .1) ∙ sym long)) ∙ unpack-packed q (e .0) (e .1)
 
 module _ (t : List (List ℕ)) (long : LongRows t) (i : ℕ) (inside : i < length t) (q : Process) where
-  packed-unpacked : Eights q → recordsIn (packedAt t i q) ≡ set (recordsIn t) i q
+  packed-unpacked : Eights q → unpackedAll (packedAt t i q) ≡ set (unpackedAll t) i q
   packed-unpacked e =
       map-set unpackRecord t i (packedOver (getD t i []) q)
-      ∙ ap (set (recordsIn t) i) (over-unpacked (getD t i []) q (long i inside) e)
+      ∙ ap (set (unpackedAll t) i) (over-unpacked (getD t i []) q (long i inside) e)
 
   packed-rows : LongRows (packedAt t i q)
   packed-rows j l =
@@ -140,7 +140,7 @@ module _ (t : List (List ℕ)) (long : LongRows t) (i : ℕ) (inside : i < lengt
 
 -- ---- an accepted request
 
-cleared-unpacked : (ps : List Process) → recordsIn (map packRecord (map (λ p. zeroProcess) ps)) ≡ map (λ p. zeroProcess) ps
+cleared-unpacked : (ps : List Process) → unpackedAll (map packRecord (map (λ p. zeroProcess) ps)) ≡ map (λ p. zeroProcess) ps
 cleared-unpacked [] = refl
 cleared-unpacked (p ∷ ps) = ap₂ {C = List Process} (λ q qs. q ∷ qs) zero-unpacked (cleared-unpacked ps)
 
@@ -151,7 +151,7 @@ cleared-rows (p ∷ ps) (suc i) l = cleared-rows ps i (omega arith)
 
 -- the words after a request are the records that it leaves, and rows of 208 words
 abbrev After : List (List ℕ) → Request → Result (State Process) → Type 0
-After t x r = (recordsIn (tableAfter t x r) ≡ r .state .table) × LongRows (tableAfter t x r)
+After t x r = (unpackedAll (tableAfter t x r) ≡ r .state .table) × LongRows (tableAfter t x r)
 
 -- an accepted call or turn stores a record with its eight places
 module _ (d : Day) (ps : List Process) (whole : (i : ℕ) → i < length ps → Eights (getD ps i noProcess)) (page : List ℕ) where
@@ -207,39 +207,39 @@ module _ (d : Day) (ps : List Process) (whole : (i : ℕ) → i < length ps → 
 
 module _ (d : Day) (t : List (List ℕ)) (x : Request) (page : List ℕ) (long : LongRows t) where
   abbrev s : State Process
-  s = stateOf d (recordsIn t)
+  s = stateOf d (unpackedAll t)
 
-  table-whole : (i : ℕ) → i < length (recordsIn t) → Eights (getD (recordsIn t) i noProcess)
+  table-whole : (i : ℕ) → i < length (unpackedAll t) → Eights (getD (unpackedAll t) i noProcess)
   table-whole i l = records-whole t i (subst (λ k. i < k) (records-long t) l)
 
   -- of a table that packedBy gives
   by-packed : refusalIn s (itemOf page x) ≡ none → (t′ : List (List ℕ)) →
       let r = acceptedIn s (itemOf page x) in
-      t′ ≡ packedBy t x (r .state .table) → recordsIn t′ ≡ r .state .table → LongRows t′ → After t x r
+      t′ ≡ packedBy t x (r .state .table) → unpackedAll t′ ≡ r .state .table → LongRows t′ → After t x r
   by-packed h t′ e same rows =
       let r = acceptedIn s (itemOf page x) in
-      let q = e ∙ after-accepted t x r (answered d (recordsIn t) table-whole page x h) in
-      (ap recordsIn (sym q) ∙ same, subst LongRows q rows)
+      let q = e ∙ after-accepted t x r (answered d (unpackedAll t) table-whole page x h) in
+      (ap unpackedAll (sym q) ∙ same, subst LongRows q rows)
 
   -- an accepted call or turn
   item-after : T (not (isOpening x)) → refusalIn s (itemOf page x) ≡ none → After t x (acceptedIn s (itemOf page x))
   item-after o h =
       let i = numberIn x - 1 in
-      let within = admits-inside d (recordsIn t) page x o h in
+      let within = admits-inside d (unpackedAll t) page x o h in
       let same = records-long t in
       let inside : i < length t = omega arith in
-      let st = stores d (recordsIn t) table-whole page x o h in
+      let st = stores d (unpackedAll t) table-whole page x o h in
       let q = st .0 in
       by-packed h (packedAt t i q) (stored-packed t x q _ o inside (st .2))
       (packed-unpacked t long i inside q (st .1) ∙ st .2) (packed-rows t long i inside q)
 
 -- an accepted opening
 opening-after : (d : Day) (t : List (List ℕ)) (k : ℕ) (page : List ℕ) →
-    After t (Open k) (acceptedIn (stateOf d (recordsIn t)) (itemOf page (Open k)))
+    After t (Open k) (acceptedIn (stateOf d (unpackedAll t)) (itemOf page (Open k)))
 unfolding accept openedBy
-opening-after d t k page = (cleared-unpacked (recordsIn t), cleared-rows (recordsIn t))
+opening-after d t k page = (cleared-unpacked (unpackedAll t), cleared-rows (unpackedAll t))
 
-accepted-after : (d : Day) (t : List (List ℕ)) (x : Request) (page : List ℕ) → LongRows t → let s = stateOf d (recordsIn t) in
+accepted-after : (d : Day) (t : List (List ℕ)) (x : Request) (page : List ℕ) → LongRows t → let s = stateOf d (unpackedAll t) in
     refusalIn s (itemOf page x) ≡ none → After t x (acceptedIn s (itemOf page x))
 accepted-after d t (Open k) page long h = opening-after d t k page
 accepted-after d t (Update i w) page long h = item-after d t (Update i w) page long tt h
@@ -249,19 +249,19 @@ accepted-after d t (Turn i) page long h = item-after d t (Turn i) page long tt h
 -- ---- any request
 
 after : (d : Day) (t : List (List ℕ)) (x : Request) (page : List ℕ) → LongRows t → After t x (steppedIn d t x page)
-after d t x page long = go (refusalIn (stateOf d (recordsIn t)) (itemOf page x)) refl
+after d t x page long = go (refusalIn (stateOf d (unpackedAll t)) (itemOf page x)) refl
   where
-    go : (k : Option Refusal) → refusalIn (stateOf d (recordsIn t)) (itemOf page x) ≡ k → After t x (steppedIn d t x page)
+    go : (k : Option Refusal) → refusalIn (stateOf d (unpackedAll t)) (itemOf page x) ≡ k → After t x (steppedIn d t x page)
     go none h =
-        subst (After t x) (stepped-accepted (stateOf d (recordsIn t)) (itemOf page x) h) (accepted-after d t x page long h)
+        subst (After t x) (stepped-accepted (stateOf d (unpackedAll t)) (itemOf page x) h) (accepted-after d t x page long h)
     go (some k) h =
-        subst (After t x) (sym (refusal-changes-nothing (figure3 ascending) (stateOf d (recordsIn t)) (itemOf page x) k h))
+        subst (After t x) (sym (refusal-changes-nothing (figure3 ascending) (stateOf d (unpackedAll t)) (itemOf page x) k h))
         (refl, long)
 
 -- what a request leaves in the words are the records that it leaves
 pub unpacked-after : (d : Day) (t : List (List ℕ)) (x : Request) (page : List ℕ) →
     ((i : ℕ) → i < length t → length (getD t i []) ≡ 208) →
-    let r = steppedIn d t x page in recordsIn (tableAfter t x r) ≡ r .state .table
+    let r = steppedIn d t x page in unpackedAll (tableAfter t x r) ≡ r .state .table
 unpacked-after d t x page long = after d t x page long .0
 
 -- and every row has its 208 words again

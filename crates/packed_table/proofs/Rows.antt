@@ -45,23 +45,23 @@ use Rattle.memory.proofs.Accepted.{write-leaves, read-leaves}
 use Rattle.packed.specs.Packing.{packRecord, unpackRecord, packRegister, packTask, unpackRegister, unpackTask}
 use Rattle.packed.proofs.Words.{sets-over}
 use Rattle.packed.proofs.Packing.{register-long, task-long}
-use Rattle.packed_table.specs.Tables.{recordsIn, recordAt, packedOver, packedAt, packedBy, changed, isRefused, tableAfter}
+use Rattle.packed_table.specs.Tables.{unpackedAll, recordAt, packedOver, packedAt, packedBy, changed, isRefused, tableAfter}
 
 -- ---- the records of a table
 
-pub records-long : (t : List (List ℕ)) → length (recordsIn t) ≡ length t
+pub records-long : (t : List (List ℕ)) → length (unpackedAll t) ≡ length t
 records-long t = length-map t unpackRecord
 
-pub record-is : (t : List (List ℕ)) (i : ℕ) → i < length t → getD (recordsIn t) i noProcess ≡ recordAt t i
+pub record-is : (t : List (List ℕ)) (i : ℕ) → i < length t → getD (unpackedAll t) i noProcess ≡ recordAt t i
 record-is t i l = getD-map-below unpackRecord t i [] noProcess l
 
 pub task-is : (t : List (List ℕ)) (i : ℕ) → i < length t →
-    unpackTask (drop 11 (getD t i [])) ≡ getD (recordsIn t) i noProcess .task
+    unpackTask (drop 11 (getD t i [])) ≡ getD (unpackedAll t) i noProcess .task
 unfolding unpackRecord
 task-is t i l = ap (λ p. p .task) (sym (record-is t i l))
 
 pub register-is : (t : List (List ℕ)) (i : ℕ) → i < length t →
-    unpackRegister (getD t i []) ≡ getD (recordsIn t) i noProcess .register
+    unpackRegister (getD t i []) ≡ getD (unpackedAll t) i noProcess .register
 unfolding unpackRecord
 register-is t i l = ap (λ p. p .register) (sym (record-is t i l))
 
@@ -73,16 +73,16 @@ parts-seen s ws = refl
 
 -- one record more is looked at
 pub looked-more : (s : Survey) (t : List (List ℕ)) (i : ℕ) → i < length t →
-    foldl surveyedBy (surveyedBy s (recordAt t i)) (recordsIn (drop (i + 1) t)) ≡ foldl surveyedBy s (recordsIn (drop i t))
+    foldl surveyedBy (surveyedBy s (recordAt t i)) (unpackedAll (drop (i + 1) t)) ≡ foldl surveyedBy s (unpackedAll (drop i t))
 looked-more s t i l = rw (add-one, drop-cons t i []) refl
 
 -- what the first check finds of a table of packed records it finds of the records
 pub first-found : (day : Day) (t : List (List ℕ)) (x : Request) (words : ℕ) {s₀ s : Survey} {c : Option Refusal} →
-    s₀ ≡ surveyOf day → s ≡ foldl surveyedBy s₀ (recordsIn t) → c ≡ firstRefusal day (length t) s x words →
-    c ≡ firstRefusal day (length (recordsIn t)) (foldl surveyedBy (surveyOf day) (recordsIn t)) x words
+    s₀ ≡ surveyOf day → s ≡ foldl surveyedBy s₀ (unpackedAll t) → c ≡ firstRefusal day (length t) s x words →
+    c ≡ firstRefusal day (length (unpackedAll t)) (foldl surveyedBy (surveyOf day) (unpackedAll t)) x words
 first-found day t x words e₀ e h =
     let long = sym (records-long t) in
-    let found = e ∙ ap (λ v. foldl surveyedBy v (recordsIn t)) e₀ in
+    let found = e ∙ ap (λ v. foldl surveyedBy v (unpackedAll t)) e₀ in
     h ∙ (λ i. firstRefusal day (long i) (found i) x words)
 
 -- ---- tests
@@ -148,11 +148,11 @@ item-packed t (Turn d) ps o = refl
 -- record q stored for the process of a call or a turn
 pub stored-packed : (t : List (List ℕ)) (x : Request) (q : Process) (ps : List Process) → T (not (isOpening x)) →
     let i = numberIn x - 1 in
-    i < length t → set (recordsIn t) i q ≡ ps → packedAt t i q ≡ packedBy t x ps
+    i < length t → set (unpackedAll t) i q ≡ ps → packedAt t i q ≡ packedBy t x ps
 stored-packed t x q ps o l e =
     let i = numberIn x - 1 in
     let long = records-long t in
-    ap (packedAt t i) (sym (getD-set-same (recordsIn t) i q noProcess (omega arith)))
+    ap (packedAt t i) (sym (getD-set-same (unpackedAll t) i q noProcess (omega arith)))
     ∙ ap (changed t i) e
     ∙ sym (item-packed t x ps o)
 
@@ -200,7 +200,7 @@ module _ (day : Day) (ps : List Process) (page : List ℕ) (x : Request) (item :
 -- ---- openings
 
 pub cleared-packed : (t : List (List ℕ)) →
-    map (λ w. packRecord zeroProcess) t ≡ map packRecord (map (λ p. zeroProcess) (recordsIn t))
+    map (λ w. packRecord zeroProcess) t ≡ map packRecord (map (λ p. zeroProcess) (unpackedAll t))
 cleared-packed [] = refl
 cleared-packed (w ∷ t) = ap {B = List (List ℕ)} (λ ws. packRecord zeroProcess ∷ ws) (cleared-packed t)
 
@@ -212,7 +212,7 @@ opening-is (Turn d) o = absurd o
 
 -- ---- the record of a turn
 
-module _ (day : Day) (t : List (List ℕ)) (i : ℕ) (k : Task) (h : TurnAt day (recordsIn t) i k) where
+module _ (day : Day) (t : List (List ℕ)) (i : ℕ) (k : Task) (h : TurnAt day (unpackedAll t) i k) where
   pub turn-inside : i < length t
   turn-inside = let l = h .inside in let long = records-long t in omega arith
 

@@ -19,20 +19,21 @@ use Rattle.memory.specs.Tables.{stateOf}
 use Rattle.packed.specs.Packing.{packRecord, unpackRecord}
 
 -- the records that the words are
-abbrev pub recordsIn : List (List ℕ) → List Process
-recordsIn t = map unpackRecord t
+abbrev pub unpackedAll : List (List ℕ) → List Process
+unpackedAll t = map unpackRecord t
 
 abbrev pub recordAt : List (List ℕ) → ℕ → Process
 recordAt t i = unpackRecord (getD t i [])
 
--- p packed over the words of a record, all 208 of which it replaces
+-- p packed over the words of a record; it replaces all of a row of 208, as every lent one is (proofs/Chained, `over-unpacked`)
 abbrev pub packedOver : List ℕ → Process → List ℕ
 packedOver ws p = sets ws 0 (packRecord p)
 
--- the words once record i is p, and once it is that of ps
+-- the words once record i is p
 abbrev pub packedAt : List (List ℕ) → ℕ → Process → List (List ℕ)
 packedAt t i p = set t i (packedOver (getD t i []) p)
 
+-- and once it is that of ps
 abbrev pub changed : List (List ℕ) → ℕ → List Process → List (List ℕ)
 changed t i ps = packedAt t i (getD ps i noProcess)
 
@@ -57,4 +58,4 @@ tableAfter t x r = cond (isRefused (r .answer)) t (packedBy t x (r .state .table
 
 -- the step of the definitions on the records that the words are
 abbrev pub steppedIn : Day → List (List ℕ) → Request → (page : List ℕ) → Result (State Process)
-steppedIn d t x page = stepped (stateOf d (recordsIn t)) (itemOf page x)
+steppedIn d t x page = stepped (stateOf d (unpackedAll t)) (itemOf page x)

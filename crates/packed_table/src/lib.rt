@@ -41,7 +41,7 @@ ghost use Rattle.unbounded_turns.specs.Steps.{begunBy, stateBy};
 ghost use Rattle.memory.specs.Tables.{stateOf, outcomeOf, refusalIn, acceptedIn, RefusedBy};
 ghost use Rattle.memory.specs.Turning.{Turning, TurnAt, readAt, foundAt};
 ghost use Rattle.packed.specs.Packing.{packRecord, unpackRecord};
-ghost use Rattle.packed_table.specs.Tables.{recordsIn, recordAt, packedAt, packedBy, tableAfter, steppedIn};
+ghost use Rattle.packed_table.specs.Tables.{unpackedAll, recordAt, packedAt, packedBy, tableAfter, steppedIn};
 
 // What is found once a record is looked at too.
 fn looked_at(s: Survey, w: &[u32; 208]) -> Survey
@@ -52,7 +52,7 @@ fn looked_at(s: Survey, w: &[u32; 208]) -> Survey
 
 // What a look at every record finds, from what was found before.
 fn survey(t: &[[u32; 208]], start: Survey) -> Survey
-    ensures { λ s. ⌜ s ≡ foldl surveyedBy start (recordsIn (now (t .entry))) ⌝ }
+    ensures { λ s. ⌜ s ≡ foldl surveyedBy start (unpackedAll (now (t .entry))) ⌝ }
 {
     let mut found = start;
     let mut i = 0;
@@ -66,7 +66,7 @@ fn survey(t: &[[u32; 208]], start: Survey) -> Survey
 // The refusal of a call or a turn, if any, where its page list has that many words.
 fn plan(day: Day, t: &[[u32; 208]], x: Request, words: usize) -> Check
     requires { ⌜ T (not (isOpening x)) ⌝ }
-    ensures { λ c. ⌜ RefusedBy day (recordsIn (now (t .entry))) x words (asOption c) ⌝ }
+    ensures { λ c. ⌜ RefusedBy day (unpackedAll (now (t .entry))) x words (asOption c) ⌝ }
 {
     let s = survey(t, surveys::survey_of(day));
     let c = checks::first_check(day, t.len(), s, x, words);
@@ -121,10 +121,10 @@ fn turn_at(t: &mut [[u32; 208]], i: usize, a: Access, r: Register, f: Find, p: P
 
 // An accepted call.
 fn call(day: Day, t: &mut [[u32; 208]], x: Request) -> Outcome
-    requires { ⌜ T (isCall x) × (refusalIn (stateOf day (recordsIn (now t))) (itemOf [] x) ≡ none) ⌝ }
-    ensures { λ r. ⌜ r ≡ outcomeOf (acceptedIn (stateOf day (recordsIn (now (t .entry)))) (itemOf [] x)) ⌝ }
+    requires { ⌜ T (isCall x) × (refusalIn (stateOf day (unpackedAll (now t))) (itemOf [] x) ≡ none) ⌝ }
+    ensures { λ r. ⌜ r ≡ outcomeOf (acceptedIn (stateOf day (unpackedAll (now (t .entry)))) (itemOf [] x)) ⌝ }
     ensures { λ r. ⌜ now (t .exit) ≡
-        packedBy (now (t .entry)) x (acceptedIn (stateOf day (recordsIn (now (t .entry)))) (itemOf [] x) .state .table) ⌝ }
+        packedBy (now (t .entry)) x (acceptedIn (stateOf day (unpackedAll (now (t .entry)))) (itemOf [] x) .state .table) ⌝ }
 {
     let a = accesses::call_access(day);
     begin_at(t, requests::index_in(x), a, tasks::task_for(x));
@@ -133,7 +133,7 @@ fn call(day: Day, t: &mut [[u32; 208]], x: Request) -> Outcome
 
 // The writing turn of record i, an update with task k that is ready: it reads no register.
 fn write_turn(day: Day, t: &mut [[u32; 208]], i: usize, k: Task) -> Outcome
-    requires { ⌜ TurnAt day (recordsIn (now t)) i k ⌝ }
+    requires { ⌜ TurnAt day (unpackedAll (now t)) i k ⌝ }
     ensures { λ x. ⌜ x ≡ acceptedOutcome day (answerBy (nothingFound 0) k) ⌝ }
     ensures { λ x. ⌜ now (t .exit) ≡ packedAt (now (t .entry)) i (stateBy (accessOf day k) zeroRegister (recordAt (now (t .entry)) i) (nothingFound 0) k) ⌝ }
 {
@@ -146,13 +146,13 @@ fn write_turn(day: Day, t: &mut [[u32; 208]], i: usize, k: Task) -> Outcome
 
 // A reading turn of record i, with task k: one register is read.
 fn read_turn(day: Day, t: &mut [[u32; 208]], i: usize, k: Task, page: &mut [u32]) -> Outcome
-    requires { ⌜ TurnAt day (recordsIn (now t)) i k × RoomFor (accessOf day k) (now page) ⌝ }
-    ensures { λ x. ⌜ x ≡ acceptedOutcome day (answerBy (foundAt day (recordsIn (now (t .entry))) i k) k) ⌝ }
+    requires { ⌜ TurnAt day (unpackedAll (now t)) i k × RoomFor (accessOf day k) (now page) ⌝ }
+    ensures { λ x. ⌜ x ≡ acceptedOutcome day (answerBy (foundAt day (unpackedAll (now (t .entry))) i k) k) ⌝ }
     ensures { λ x. ⌜ now (t .exit) ≡ packedAt (now (t .entry)) i (stateBy (accessOf day k)
-        (readAt day (recordsIn (now (t .entry))) k) (recordAt (now (t .entry)) i)
-        (foundAt day (recordsIn (now (t .entry))) i k) k) ⌝ }
+        (readAt day (unpackedAll (now (t .entry))) k) (recordAt (now (t .entry)) i)
+        (foundAt day (unpackedAll (now (t .entry))) i k) k) ⌝ }
     ensures { λ x. ⌜ now (page .exit) ≡
-        pageBy (accessOf day k) (foundAt day (recordsIn (now (t .entry))) i k) k (now (page .entry)) ⌝ }
+        pageBy (accessOf day k) (foundAt day (unpackedAll (now (t .entry))) i k) k (now (page .entry)) ⌝ }
 {
     let a = accesses::access_of(day, k);
     let j = accesses::place_of(a);
@@ -167,12 +167,12 @@ fn read_turn(day: Day, t: &mut [[u32; 208]], i: usize, k: Task, page: &mut [u32]
 // An accepted turn: a ready update writes, any other task reads one register.
 fn turn_on(day: Day, t: &mut [[u32; 208]], x: Request, page: &mut [u32]) -> Outcome
     requires { ⌜ T (not (isOpening x)) × T (not (isCall x))
-        × (refusalIn (stateOf day (recordsIn (now t))) (itemOf (now page) x) ≡ none) ⌝ }
-    ensures { λ r. ⌜ r ≡ outcomeOf (acceptedIn (stateOf day (recordsIn (now (t .entry)))) (itemOf (now (page .entry)) x)) ⌝ }
+        × (refusalIn (stateOf day (unpackedAll (now t))) (itemOf (now page) x) ≡ none) ⌝ }
+    ensures { λ r. ⌜ r ≡ outcomeOf (acceptedIn (stateOf day (unpackedAll (now (t .entry)))) (itemOf (now (page .entry)) x)) ⌝ }
     ensures { λ r. ⌜ now (t .exit) ≡ packedBy (now (t .entry)) x
-        (acceptedIn (stateOf day (recordsIn (now (t .entry)))) (itemOf (now (page .entry)) x) .state .table) ⌝ }
+        (acceptedIn (stateOf day (unpackedAll (now (t .entry)))) (itemOf (now (page .entry)) x) .state .table) ⌝ }
     ensures { λ r. ⌜ now (page .exit) ≡
-        acceptedIn (stateOf day (recordsIn (now (t .entry)))) (itemOf (now (page .entry)) x) .page ⌝ }
+        acceptedIn (stateOf day (unpackedAll (now (t .entry)))) (itemOf (now (page .entry)) x) .page ⌝ }
 {
     let i = requests::index_in(x);
     let k = packed::task_in(&t[i]);
@@ -184,9 +184,9 @@ fn turn_on(day: Day, t: &mut [[u32; 208]], x: Request, page: &mut [u32]) -> Outc
 
 // An opening for k processes: refused, or every record is set to 0.
 fn open(day: Day, t: &mut [[u32; 208]], k: u32) -> Outcome
-    ensures { λ x. ⌜ x ≡ outcomeOf (stepped (stateOf day (recordsIn (now (t .entry)))) (openFor k)) ⌝ }
+    ensures { λ x. ⌜ x ≡ outcomeOf (stepped (stateOf day (unpackedAll (now (t .entry)))) (openFor k)) ⌝ }
     ensures { λ x. ⌜ now (t .exit) ≡
-        tableAfter (now (t .entry)) (Open k) (stepped (stateOf day (recordsIn (now (t .entry)))) (openFor k)) ⌝ }
+        tableAfter (now (t .entry)) (Open k) (stepped (stateOf day (unpackedAll (now (t .entry)))) (openFor k)) ⌝ }
 {
     let c = checks::opening_check(day, t.len(), k);
     if checks::is_refused(c) {

@@ -11,7 +11,7 @@ use Rattle.unbounded_tasks.specs.Accesses.{callAccess}
 use Rattle.unbounded_tasks.specs.Tasks.{taskFor}
 use Rattle.unbounded_turns.specs.Steps.{begunBy}
 use Rattle.memory.proofs.Accepted.{call-item, admits, admits-day, admits-inside, called-leaves}
-use Rattle.packed_table.specs.Tables.{recordsIn, recordAt, packedAt}
+use Rattle.packed_table.specs.Tables.{unpackedAll, recordAt, packedAt}
 use Rattle.packed_table.proofs.Rows.{records-long, record-is, stored-packed}
 use borrow.Author.Needs.{needs}
 use Rattle.packed_table.proofs.call.Statement.{statement}
@@ -20,7 +20,7 @@ use Rattle.packed_table.proofs.call.Tie as tie
 call-access-requires : tie.Need-call-access-requires
 call-access-requires c κs =
     let a = c .args in
-    let ps = recordsIn (a .t .now) in
+    let ps = unpackedAll (a .t .now) in
     let item = call-item (a .x) (c .pre .0) in
     admits-day (a .day) ps [] (a .x) item (c .pre .1)
 
@@ -28,7 +28,7 @@ index-in-requires : tie.Need-index-in-requires
 index-in-requires c κs =
     let start = c .before .before in
     let a = start .args in
-    let ps = recordsIn (a .t .now) in
+    let ps = unpackedAll (a .t .now) in
     let item = call-item (a .x) (start .pre .0) in
     admits (a .day) ps [] (a .x) item (start .pre .1) .suited .among .0
 
@@ -39,7 +39,7 @@ begin-at-requires : tie.Need-begin-at-requires
 begin-at-requires c κs =
     let start = c .before .before .before .before in
     let a = start .args in
-    let ps = recordsIn (a .t .now) in
+    let ps = unpackedAll (a .t .now) in
     let item = call-item (a .x) (start .pre .0) in
     let l = admits-inside (a .day) ps [] (a .x) item (start .pre .1) in
     let long = records-long (a .t .now) in
@@ -50,7 +50,7 @@ called-requires : tie.Need-called-requires
 called-requires c κs =
     let start = c .before .before .before .before .before .before in
     let a = start .args in
-    let ps = recordsIn (a .t .now) in
+    let ps = unpackedAll (a .t .now) in
     let item = call-item (a .x) (start .pre .0) in
     admits (a .day) ps [] (a .x) item (start .pre .1) .room
 
@@ -61,7 +61,7 @@ returns : tie.Need-returns
 returns c =
     let start = c .before .before .before .before .before .before .before in
     let a = start .args in
-    let ps = recordsIn (a .t .now) in
+    let ps = unpackedAll (a .t .now) in
     let item = call-item (a .x) (start .pre .0) in
     let l = admits-inside (a .day) ps [] (a .x) item (start .pre .1) in
     let long = records-long (a .t .now) in

@@ -9,7 +9,7 @@ use Rattle.unbounded.specs.Days.{stepped}
 use Rattle.memory.specs.Tables.{stateOf, outcomeOf}
 use Rattle.memory.proofs.Accepted.{stepped-refused, stepped-accepted, opening-refused, opened-leaves}
 use Rattle.packed.specs.Packing.{packRecord}
-use Rattle.packed_table.specs.Tables.{recordsIn, isRefused}
+use Rattle.packed_table.specs.Tables.{unpackedAll, isRefused}
 use Rattle.packed_table.proofs.Rows.{records-long, held, failed, cleared-packed, after-refused, after-accepted, refusal-refused}
 use borrow.Author.Needs.{needs}
 use Rattle.packed_table.proofs.open.Statement.{statement}
@@ -28,7 +28,7 @@ returns : tie.Need-returns
 returns c =
     let a = c .before .before .before .before .args in
     let t = a .t .now in
-    let s = stateOf (a .day) (recordsIn t) in
+    let s = stateOf (a .day) (unpackedAll t) in
     let z = c .before .before .before .opening-check in
     let e = z .ensures
     ∙ ap (λ n. openingRefusal (a .day) n (a .k)) (sym (records-long t))
@@ -52,7 +52,7 @@ returns-2 : tie.Need-returns-2
 returns-2 c =
     let a = c .before .before .before .before .before .before .before .args in
     let t = a .t .now in
-    let s = stateOf (a .day) (recordsIn t) in
+    let s = stateOf (a .day) (unpackedAll t) in
     let z = c .before .before .before .before .before .before .opening-check in
     let e = z .ensures
     ∙ ap (λ n. openingRefusal (a .day) n (a .k)) (sym (records-long t))

@@ -11,7 +11,7 @@ use Rattle.unbounded.specs.Processes.{isIdle}
 use Rattle.unbounded_tasks.specs.Surveys.{surveyedBy}
 use Rattle.memory.proofs.Accepted.{plan-refuses, plan-number, plan-inside, plan-last}
 use Rattle.packed.specs.Packing.{unpackTask}
-use Rattle.packed_table.specs.Tables.{recordsIn}
+use Rattle.packed_table.specs.Tables.{unpackedAll}
 use Rattle.packed_table.proofs.Rows.{records-long, task-is, held, failed, first-found}
 use borrow.Author.Needs.{needs}
 use Rattle.packed_table.proofs.plan.Statement.{statement}
@@ -36,7 +36,7 @@ returns c =
     let item = c .before .before .before .before .before .pre in
     let z = c .before .before .first-check in
     let e = first-found (a .day) t (a .x) (a .words) (c .before .before .before .before .survey-of .ensures) (c .before .before .before .survey .ensures) (z .ensures) in
-    plan-refuses (a .day) (recordsIn t) (a .x) item (a .words) (asOption (z .result)) e
+    plan-refuses (a .day) (unpackedAll t) (a .x) item (a .words) (asOption (z .result)) e
     (held (c .before .is-refused .ensures) (c .if1 .taken))
 
 index-in-requires : tie.Need-index-in-requires
@@ -47,7 +47,7 @@ index-in-requires c κs =
     let z = c .before .before .first-check in
     let e = first-found (a .day) t (a .x) (a .words) (c .before .before .before .before .survey-of .ensures) (c .before .before .before .survey .ensures) (z .ensures) in
     let passed = sym e ∙ passed-none (asOption (z .result)) (failed (c .before .is-refused .ensures) (c .if1 .left)) in
-    plan-number (a .day) (recordsIn t) (a .x) item (a .words) passed
+    plan-number (a .day) (unpackedAll t) (a .x) item (a .words) passed
 
 mul-task-in : tie.Need-mul-task-in
 mul-task-in c =
@@ -57,7 +57,7 @@ mul-task-in c =
     let z = c .before .before .before .first-check in
     let e = first-found (a .day) t (a .x) (a .words) (c .before .before .before .before .before .survey-of .ensures) (c .before .before .before .before .survey .ensures) (z .ensures) in
     let passed = sym e ∙ passed-none (asOption (z .result)) (failed (c .before .before .is-refused .ensures) (c .before .if1 .left)) in
-    let n = plan-inside (a .day) (recordsIn t) (a .x) item (a .words) passed in
+    let n = plan-inside (a .day) (unpackedAll t) (a .x) item (a .words) passed in
     let long = records-long t in
     let i = c .index-in .ensures in
     let inside : c .index-in .result < length t = omega arith in
@@ -71,7 +71,7 @@ shared-slice-element-task-in c =
     let z = c .before .before .before .first-check in
     let e = first-found (a .day) t (a .x) (a .words) (c .before .before .before .before .before .survey-of .ensures) (c .before .before .before .before .survey .ensures) (z .ensures) in
     let passed = sym e ∙ passed-none (asOption (z .result)) (failed (c .before .before .is-refused .ensures) (c .before .if1 .left)) in
-    let n = plan-inside (a .day) (recordsIn t) (a .x) item (a .words) passed in
+    let n = plan-inside (a .day) (unpackedAll t) (a .x) item (a .words) passed in
     let long = records-long t in
     let i = c .index-in .ensures in
     let inside : c .index-in .result < length t = omega arith in
@@ -94,9 +94,9 @@ returns-2 c page q =
     let z = c .before .before .before .before .before .before .before .first-check in
     let e = first-found (a .day) t (a .x) (a .words) (c .before .before .before .before .before .before .before .before .before .survey-of .ensures) (c .before .before .before .before .before .before .before .before .survey .ensures) (z .ensures) in
     let passed = sym e ∙ passed-none (asOption (z .result)) (failed (c .before .before .before .before .before .before .is-refused .ensures) (c .before .before .before .before .before .if1 .left)) in
-    let n = plan-inside (a .day) (recordsIn t) (a .x) item (a .words) passed in
+    let n = plan-inside (a .day) (unpackedAll t) (a .x) item (a .words) passed in
     let long = records-long t in
-    let s = c .before .before .before .before .before .before .before .before .survey .ensures ∙ ap (λ v. foldl surveyedBy v (recordsIn t)) (c .before .before .before .before .before .before .before .before .before .survey-of .ensures) in
+    let s = c .before .before .before .before .before .before .before .before .survey .ensures ∙ ap (λ v. foldl surveyedBy v (unpackedAll t)) (c .before .before .before .before .before .before .before .before .before .survey-of .ensures) in
     let i = c .before .before .before .before .index-in in
     let idle = c .before .is-idle .ensures
     ∙ ap isIdle (c .before .before .task-in .ensures
@@ -104,7 +104,7 @@ returns-2 c page q =
     ∙ task-is t (numberIn (a .x) - 1) (omega arith)) in
     c .last-check .ensures
     ∙ (λ j. lastRefusal (s j) (a .x) (idle j))
-    ∙ plan-last (a .day) (recordsIn t) (a .x) item (a .words) passed page q
+    ∙ plan-last (a .day) (unpackedAll t) (a .x) item (a .words) passed page q
 
 pub plan-spec : {M : Type 1} → statement M
 plan-spec =

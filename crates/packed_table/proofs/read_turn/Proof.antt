@@ -10,7 +10,7 @@ use Rattle.unbounded_finds.specs.Finds.{findOf, pageBy}
 use Rattle.unbounded_turns.specs.Steps.{stateBy}
 use Rattle.unbounded_turns.proofs.Steps.{access-count}
 use Rattle.memory.specs.Turning.{Turning, readAt, foundAt}
-use Rattle.packed_table.specs.Tables.{recordsIn, packedAt}
+use Rattle.packed_table.specs.Tables.{unpackedAll, packedAt}
 use Rattle.packed_table.proofs.Rows.{records-long, record-is, register-is, turn-inside, turn-task, turning-at}
 use borrow.Author.Needs.{needs}
 use Rattle.packed_table.proofs.read_turn.Statement.{statement}
@@ -98,7 +98,7 @@ returns c =
     let n : access .result .n ≡ a .day .count = ap (λ z. z .n) (access .ensures .0) ∙ access-count (a .day) (a .k) in
     let j = c .before .before .before .before .before .before .before .before .before .before .before .before .before .before .place-of .ensures .1 in
     let t = a .t .now in
-    let ps = recordsIn t in
+    let ps = unpackedAll t in
     let inside = turn-inside (a .day) t (a .i) (a .k) (start .pre .0) in
     let p = c .before .before .before .before .before .before .before .before .before .before .record-in .ensures in
     let task = ap (λ q. q .task) p ∙ turn-task (a .day) t (a .i) (a .k) (start .pre .0) in

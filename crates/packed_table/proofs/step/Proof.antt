@@ -9,7 +9,7 @@ use Rattle.unbounded.specs.Days.{stepped}
 use Rattle.memory.specs.Tables.{stateOf, outcomeOf, refusalIn, acceptedIn}
 use Rattle.memory.proofs.Accepted.{stepped-refused, stepped-accepted, call-same, opening-item, called-leaves}
 use Rattle.memory.proofs.Accepted.{after-opening, after-call, after-turn, after-refusal}
-use Rattle.packed_table.specs.Tables.{recordsIn, packedBy, isRefused, tableAfter}
+use Rattle.packed_table.specs.Tables.{unpackedAll, packedBy, isRefused, tableAfter}
 use Rattle.packed_table.proofs.Rows.{held, failed, opening-is, after-refused, after-accepted, refusal-refused, turn-accepted}
 use borrow.Author.Needs.{needs}
 use Rattle.packed_table.proofs.step.Statement.{statement}
@@ -32,7 +32,7 @@ returns c =
     let a = c .before .before .before .before .before .before .before .args in
     let t = a .t .now in
     let page = a .page .now in
-    let s = stateOf (a .day) (recordsIn t) in
+    let s = stateOf (a .day) (unpackedAll t) in
     let all = stepped s (itemOf page (a .x)) in
     let opening = held (c .before .before .before .before .before .is-opening .ensures) (c .before .before .before .before .if1 .taken) in
     let number = c .before .before .number-in .ensures in
@@ -60,7 +60,7 @@ returns-2 c =
     let a = c .before .before .before .before .before .before .before .before .args in
     let t = a .t .now in
     let page = a .page .now in
-    let s = stateOf (a .day) (recordsIn t) in
+    let s = stateOf (a .day) (unpackedAll t) in
     let all = stepped s (itemOf page (a .x)) in
     let z = c .before .before .before .plan in
     let refused = held (c .before .before .is-refused .ensures) (c .before .if2 .taken) in
@@ -78,7 +78,7 @@ call-requires c κs =
     let a = c .before .before .before .before .before .before .before .before .before .before .args in
     let t = a .t .now in
     let page = a .page .now in
-    let s = stateOf (a .day) (recordsIn t) in
+    let s = stateOf (a .day) (unpackedAll t) in
     let z = c .before .before .before .before .before .plan in
     let passed = sym (z .ensures page refl)
     ∙ passed-none (asOption (z .result)) (failed (c .before .before .before .before .is-refused .ensures) (c .before .before .before .if2 .left)) in
@@ -93,7 +93,7 @@ returns-3 c =
     let a = c .before .before .before .before .before .before .before .before .before .before .before .before .args in
     let t = a .t .now in
     let page = a .page .now in
-    let s = stateOf (a .day) (recordsIn t) in
+    let s = stateOf (a .day) (unpackedAll t) in
     let all = stepped s (itemOf page (a .x)) in
     let z = c .before .before .before .before .before .before .before .plan in
     let passed = sym (z .ensures page refl)
@@ -101,7 +101,7 @@ returns-3 c =
     let calls = held (c .before .before .before .before .is-call .ensures) (c .before .before .before .if3 .taken) in
     let same = stepped-accepted s (itemOf page (a .x)) passed in
     let even = ap (acceptedIn s) (call-same page (a .x) calls) ∙ same in
-    let left = called-leaves (a .day) (recordsIn t) page (a .x) calls .0 ∙ ap outcomeOf same in
+    let left = called-leaves (a .day) (unpackedAll t) page (a .x) calls .0 ∙ ap outcomeOf same in
     let said = c .before .call .ensures in (
       said .0 ∙ ap outcomeOf even,
       (
@@ -134,7 +134,7 @@ returns-4 c =
     let a = c .before .before .before .before .before .before .before .before .before .before .before .before .before .before .before .args in
     let t = a .t .now in
     let page = a .page .now in
-    let s = stateOf (a .day) (recordsIn t) in
+    let s = stateOf (a .day) (unpackedAll t) in
     let all = stepped s (itemOf page (a .x)) in
     let z = c .before .before .before .before .before .before .before .before .before .before .plan in
     let passed = sym (z .ensures page refl)
@@ -143,7 +143,7 @@ returns-4 c =
     let turns = failed (c .before .before .before .before .before .before .before .is-call .ensures) (c .before .before .before .before .before .before .if3 .left) in
     let same = stepped-accepted s (itemOf page (a .x)) passed in
     let answer = sym (ap (λ r. isRefused (r .answer)) same)
-    ∙ turn-accepted (a .day) (recordsIn t) page (a .x) later turns passed in
+    ∙ turn-accepted (a .day) (unpackedAll t) page (a .x) later turns passed in
     let said = c .before .before .before .turn-on .ensures in (
       said .0 ∙ ap outcomeOf same,
       (

@@ -7,13 +7,13 @@ use lib.ListN.{length, drop}
 use lib.Seq.{drop-length}
 use borrow.Author.Needs.{needs}
 use Rattle.unbounded_tasks.specs.Surveys.{surveyedBy}
-use Rattle.packed_table.specs.Tables.{recordsIn}
+use Rattle.packed_table.specs.Tables.{unpackedAll}
 use Rattle.packed_table.proofs.Rows.{looked-more}
 use Rattle.packed_table.proofs.survey.Statement.{statement}
 use Rattle.packed_table.proofs.survey.Tie as tie
 
 abbrev Inv-loop : tie.InvT-loop
-Inv-loop t found₀ i₀ found i = (i ≤ length t) × (foldl surveyedBy found (recordsIn (drop i t)) ≡ foldl surveyedBy found₀ (recordsIn t))
+Inv-loop t found₀ i₀ found i = (i ≤ length t) × (foldl surveyedBy found (unpackedAll (drop i t)) ≡ foldl surveyedBy found₀ (unpackedAll t))
 
 abbrev μ-loop : tie.MeasureT-loop
 μ-loop t found₀ i₀ found i = length t - i
@@ -41,7 +41,7 @@ loop-again c =
     let l = c .before .before .before .loop in
     let t = c .before .before .before .before .args .t .now in (
       omega arith,
-      ap (λ s. foldl surveyedBy s (recordsIn (drop (l .i + 1) t))) (c .looked-at .ensures)
+      ap (λ s. foldl surveyedBy s (unpackedAll (drop (l .i + 1) t))) (c .looked-at .ensures)
           ∙ looked-more (l .found) t (l .i) (omega arith)
           ∙ l .inv .1,
     )
@@ -51,7 +51,7 @@ returns c =
     let l = c .before .loop in
     let a = c .before .before .args in
     let all : l .i ≡ length (a .t .now) = omega arith in
-    ap (λ ws. foldl surveyedBy (l .found) (recordsIn ws)) (sym (ap (λ n. drop n (a .t .now)) all ∙ drop-length (a .t .now)))
+    ap (λ ws. foldl surveyedBy (l .found) (unpackedAll ws)) (sym (ap (λ n. drop n (a .t .now)) all ∙ drop-length (a .t .now)))
     ∙ l .inv .1
 
 pub survey-spec : {M : Type 1} → statement M

@@ -16,7 +16,7 @@ use Rattle.unbounded_turns.specs.Steps.{stateBy}
 use Rattle.memory.specs.Turning.{TurnAt, readAt, foundAt}
 use Rattle.memory.proofs.Accepted.{admits, admits-inside, turn-at, page-fits, write-leaves, read-leaves}
 use Rattle.packed.specs.Packing.{unpackTask}
-use Rattle.packed_table.specs.Tables.{recordsIn, recordAt, packedAt}
+use Rattle.packed_table.specs.Tables.{unpackedAll, recordAt, packedAt}
 use Rattle.packed_table.proofs.Rows.{records-long, record-is, task-is, stored-packed}
 use borrow.Author.Needs.{needs}
 use Rattle.packed_table.proofs.turn_on.Statement.{statement}
@@ -27,7 +27,7 @@ index-in-requires c κs =
     let start = c .before in
     let a = start .args in
     let t = a .t .now in
-    let ps = recordsIn t in
+    let ps = unpackedAll t in
     let h = start .pre in
     admits (a .day) ps (a .page .now) (a .x) (h .0) (h .2) .suited .among .0
 
@@ -36,7 +36,7 @@ mul-task-in c =
     let start = c .before .before in
     let a = start .args in
     let t = a .t .now in
-    let ps = recordsIn t in
+    let ps = unpackedAll t in
     let h = start .pre in
     let l = admits-inside (a .day) ps (a .page .now) (a .x) (h .0) (h .2) in
     let long = records-long t in
@@ -49,7 +49,7 @@ index-1-task-in c =
     let start = c .before .before in
     let a = start .args in
     let t = a .t .now in
-    let ps = recordsIn t in
+    let ps = unpackedAll t in
     let h = start .pre in
     let l = admits-inside (a .day) ps (a .page .now) (a .x) (h .0) (h .2) in
     let long = records-long t in
@@ -67,7 +67,7 @@ write-turn-requires c κs =
     let start = c .before .before .before .before .before .before .before in
     let a = start .args in
     let t = a .t .now in
-    let ps = recordsIn t in
+    let ps = unpackedAll t in
     let h = start .pre in
     let l = admits-inside (a .day) ps (a .page .now) (a .x) (h .0) (h .2) in
     let long = records-long t in
@@ -89,7 +89,7 @@ returns c =
     let start = c .before .before .before .before .before .before .before .before .before in
     let a = start .args in
     let t = a .t .now in
-    let ps = recordsIn t in
+    let ps = unpackedAll t in
     let h = start .pre in
     let l = admits-inside (a .day) ps (a .page .now) (a .x) (h .0) (h .2) in
     let long = records-long t in
@@ -120,7 +120,7 @@ read-turn-requires c κs =
     let start = c .before .before .before .before .before .before .before .before in
     let a = start .args in
     let t = a .t .now in
-    let ps = recordsIn t in
+    let ps = unpackedAll t in
     let h = start .pre in
     let l = admits-inside (a .day) ps (a .page .now) (a .x) (h .0) (h .2) in
     let long = records-long t in
@@ -148,7 +148,7 @@ returns-2 c =
     let start = c .before .before .before .before .before .before .before .before .before .before .before .before in
     let a = start .args in
     let t = a .t .now in
-    let ps = recordsIn t in
+    let ps = unpackedAll t in
     let h = start .pre in
     let l = admits-inside (a .day) ps (a .page .now) (a .x) (h .0) (h .2) in
     let long = records-long t in
