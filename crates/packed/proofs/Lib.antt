@@ -1,4 +1,5 @@
--- That packing and unpacking undo each other.
+-- That packing and unpacking undo each other, and that a task of an unknown kind cannot have arisen.
 pub mod Words
 pub mod Packing
 pub mod Kept
+pub mod Unknown

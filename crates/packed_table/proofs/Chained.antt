@@ -17,6 +17,7 @@ use Rattle.snapshot.specs.Requests.{numberIn}
 use Rattle.snapshot.specs.Demand.{Result}
 use Rattle.snapshot.specs.Days.{State, readFrom, advance, calledBy, turnBy, openedBy, accept}
 use Rattle.snapshot.specs.declared.Day.{Day}
+use Rattle.snapshot.specs.declared.Answer.{Answer}
 use Rattle.snapshot.specs.declared.Refusal.{Refusal}
 use Rattle.snapshot.specs.declared.Request.{Request}
 use Rattle.snapshot.specs.declared.Request.the-variants.{Open, Update, Scan, Turn}
@@ -33,7 +34,7 @@ use Rattle.unbounded.specs.Registers.{noRegister, ascending, differs}
 use Rattle.unbounded.specs.Processes.{noProcess, zeroProcess, taskOf, begin}
 use Rattle.unbounded.specs.Turns.{position, reads, firstAfter, secondAfter, decision, marksAfter, foundBy, afterRead}
 use Rattle.unbounded.specs.Turns.{scanTurn, updateTurn, turned, turnedBy}
-use Rattle.unbounded.specs.Days.{figure3}
+use Rattle.unbounded.specs.Days.{figure3, stepped}
 use Rattle.unbounded.proofs.Whole.{Whole, WholeCollect, whole-begin, whole-turned, reads-within}
 use Rattle.unbounded.proofs.Demand3.{ascending-permutes}
 use Rattle.memory.specs.Tables.{stateOf, refusalIn, acceptedIn}
@@ -269,3 +270,26 @@ pub long-after : (d : Day) (t : List (List ℕ)) (x : Request) (page : List ℕ)
     ((i : ℕ) → i < length t → length (getD t i []) ≡ 208) → let t′ = tableAfter t x (steppedIn d t x page) in
     (i : ℕ) → i < length t′ → length (getD t′ i []) ≡ 208
 long-after d t x page long = after d t x page long .1
+
+-- ---- a list of requests, each lent what the one before left
+
+-- on words, and on the records that they are
+abbrev pub repliesOn : Day → List (List ℕ) → List (Request × List ℕ) → List (Answer × List ℕ)
+repliesOn d t [] = []
+repliesOn d t (q ∷ qs) =
+    let r = steppedIn d t (q .0) (q .1) in
+    (r .answer, r .page) ∷ repliesOn (r .state .day) (tableAfter t (q .0) r) qs
+
+abbrev pub repliesOf : State Process → List (Request × List ℕ) → List (Answer × List ℕ)
+repliesOf s [] = []
+repliesOf s (q ∷ qs) = let r = stepped s (itemOf (q .1) (q .0)) in (r .answer, r .page) ∷ repliesOf (r .state) qs
+
+-- the answers and page lists are the same, so that demand 3 holds of the library's as it does of the definitions'
+pub words-chain : (d : Day) (t : List (List ℕ)) (qs : List (Request × List ℕ)) → LongRows t →
+    repliesOn d t qs ≡ repliesOf (stateOf d (unpackedAll t)) qs
+words-chain d t [] h = refl
+words-chain d t (q ∷ qs) h =
+    let r = steppedIn d t (q .0) (q .1) in
+    ap (λ l. (r .answer, r .page) ∷ l)
+    (words-chain (r .state .day) (tableAfter t (q .0) r) qs (long-after d t (q .0) (q .1) h)
+    ∙ ap (λ ps. repliesOf (stateOf (r .state .day) ps) qs) (unpacked-after d t (q .0) (q .1) h))
