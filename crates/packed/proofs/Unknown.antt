@@ -7,7 +7,7 @@ use mathlib.Core.Bool.{true, _||_, or-true}
 use mathlib.Core.List.{List}
 use lib.ListN.{drop}
 use lib.Seq.{getD-drop}
-use lib.Dec.{ltb, leb}
+use lib.Dec.{ltb}
 use borrow.Author.Tests.{ne-eqb, le-leb}
 use Rattle.unbounded.specs.declared.Task.the-variants.{Scan}
 use Rattle.unbounded.specs.Days.{mostReads, overdue, unsound}
