@@ -85,7 +85,8 @@ sets-record ws p a c d f =
     let w₃ = sets w₂ 15 (packCollect (p .first)) in
     let w₄ = sets w₃ 103 (packCollect (p .second)) in
     sym
-    (sets-next ws 0 (packRegister (p .register)) (packTask (p .task) ++ C) 11 (zero-add (length (packRegister (p .register))) ∙ a)
+    (sets-next ws 0 (packRegister (p .register)) (packTask (p .task) ++ C) 11 (zero-add (length (packRegister
+    (p .register))) ∙ a)
     ∙ sets-next w₁ 11 (packTask (p .task)) C 15 (ap (λ k. 11 + k) (task-long (p .task)))
     ∙ sets-next w₂ 15 (packCollect (p .first)) D 103 (ap (λ k. 15 + k) c)
     ∙ sets-next w₃ 103 (packCollect (p .second)) E 191 (ap (λ k. 103 + k) d)

@@ -25,7 +25,8 @@ pub eight-words : (ws : List ℕ) (a : ℕ) → words 8 (drop a ws)
     ≡ wordAt ws a ∷ wordAt ws (a + 1) ∷ wordAt ws (a + 2) ∷ wordAt ws (a + 3)
     ∷ wordAt ws (a + 4) ∷ wordAt ws (a + 5) ∷ wordAt ws (a + 6) ∷ wordAt ws (a + 7) ∷ []
 eight-words ws a =
-    let own = ap (λ i. words 8 (drop i ws)) (sym (add-zero a)) ∙ words-from ws a 7 0 ∙ ap (λ i. wordAt ws i ∷ words 7 (drop (a + 1) ws)) (add-zero a) in
+    let own = ap (λ i. words 8 (drop i ws)) (sym (add-zero a)) ∙ words-from ws a 7 0 ∙ ap (λ i. wordAt ws i ∷ words 7
+    (drop (a + 1) ws)) (add-zero a) in
     own
     ∙ ap (λ r. wordAt ws a ∷ r) (words-from ws a 6 1
     ∙ ap (λ r. wordAt ws (a + 1) ∷ r) (words-from ws a 5 2
@@ -49,7 +50,8 @@ sets-more ws a [] i h = absurd (not-suc-le-zero h)
 sets-more ws a (v ∷ vs) zero h = ap (λ k. set ws k v) (add-zero a)
 sets-more ws a (v ∷ vs) (suc i) h =
     let e : a + suc i ≡ suc a + i = omega arith in
-    ap (λ k. set (sets (set ws a v) (suc a) (take i vs)) k (wordAt vs i)) e ∙ sets-more (set ws a v) (suc a) vs i (omega (arith, h))
+    ap (λ k. set (sets (set ws a v) (suc a) (take i vs)) k (wordAt vs i)) e ∙ sets-more (set ws a v) (suc a) vs i (omega
+    (arith, h))
 
 -- stores where others end
 pub sets-next : (ws : List ℕ) (a : ℕ) (us vs : List ℕ) (k : ℕ) → a + length us ≡ k → sets ws a (us ++ vs) ≡ sets (sets ws a us) k vs

@@ -135,7 +135,8 @@ fn call(day: Day, t: &mut [[u32; 208]], x: Request) -> Outcome
 fn write_turn(day: Day, t: &mut [[u32; 208]], i: usize, k: Task) -> Outcome
     requires { ⌜ TurnAt day (unpackedAll (now t)) i k ⌝ }
     ensures { λ x. ⌜ x ≡ acceptedOutcome day (answerBy (nothingFound 0) k) ⌝ }
-    ensures { λ x. ⌜ now (t .exit) ≡ packedAt (now (t .entry)) i (stateBy (accessOf day k) zeroRegister (recordAt (now (t .entry)) i) (nothingFound 0) k) ⌝ }
+    ensures { λ x. ⌜ now (t .exit) ≡ packedAt (now (t .entry)) i
+        (stateBy (accessOf day k) zeroRegister (recordAt (now (t .entry)) i) (nothingFound 0) k) ⌝ }
 {
     let a = accesses::access_of(day, k);
     let f = finds::nothing_found();

@@ -46,7 +46,8 @@ loop-again c =
     let x = c .before .before .args in
     let l = c .before .loop in (
       omega arith,
-      ap (λ w. set w (x .a + l .i) (wordAt (x .t3) (l .i))) (l .inv .1) ∙ sets-more (x .w .now) (x .a) (x .t3) (l .i) (omega arith)
+      ap (λ w. set w (x .a + l .i) (wordAt (x .t3) (l .i))) (l .inv .1) ∙ sets-more (x .w .now) (x .a) (x .t3) (l .i)
+          (omega arith)
           ∙ ap (λ k. sets (x .w .now) (x .a) (take k (x .t3))) (sym (add-one (l .i))),
     )
 

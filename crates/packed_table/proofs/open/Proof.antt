@@ -58,7 +58,8 @@ returns-2 c =
     ∙ ap (λ n. openingRefusal (a .day) n (a .k)) (sym (records-long t))
     ∙ opening-refused s (a .k) in
     let all = stepped s (openFor (a .k)) in
-    let passed = passed-none (asOption (z .result)) (failed (c .before .before .before .before .before .is-refused .ensures) (c .before .before .before .before .if1 .left)) in
+    let passed = passed-none (asOption (z .result)) (failed
+    (c .before .before .before .before .before .is-refused .ensures) (c .before .before .before .before .if1 .left)) in
     let same = stepped-accepted s (openFor (a .k)) (sym e ∙ passed) in
     let left = opened-leaves s (a .k) in
     let outcome = left .0 ∙ ap outcomeOf same in (

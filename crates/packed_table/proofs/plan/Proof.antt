@@ -35,7 +35,8 @@ returns c =
     let t = a .t .now in
     let item = c .before .before .before .before .before .pre in
     let z = c .before .before .first-check in
-    let e = first-found (a .day) t (a .x) (a .words) (c .before .before .before .before .survey-of .ensures) (c .before .before .before .survey .ensures) (z .ensures) in
+    let e = first-found (a .day) t (a .x) (a .words) (c .before .before .before .before .survey-of .ensures)
+    (c .before .before .before .survey .ensures) (z .ensures) in
     plan-refuses (a .day) (unpackedAll t) (a .x) item (a .words) (asOption (z .result)) e
     (held (c .before .is-refused .ensures) (c .if1 .taken))
 
@@ -45,37 +46,32 @@ index-in-requires c κs =
     let t = a .t .now in
     let item = c .before .before .before .before .before .pre in
     let z = c .before .before .first-check in
-    let e = first-found (a .day) t (a .x) (a .words) (c .before .before .before .before .survey-of .ensures) (c .before .before .before .survey .ensures) (z .ensures) in
+    let e = first-found (a .day) t (a .x) (a .words) (c .before .before .before .before .survey-of .ensures)
+    (c .before .before .before .survey .ensures) (z .ensures) in
     let passed = sym e ∙ passed-none (asOption (z .result)) (failed (c .before .is-refused .ensures) (c .if1 .left)) in
     plan-number (a .day) (unpackedAll t) (a .x) item (a .words) passed
 
-mul-task-in : tie.Need-mul-task-in
-mul-task-in c =
+-- the record that is looked at is one of the table's
+inside-at : (c : tie.After-index-in) → c .index-in .result < length (c .before .before .before .before .before .before .args .t .now)
+inside-at c =
     let a = c .before .before .before .before .before .before .args in
     let t = a .t .now in
     let item = c .before .before .before .before .before .before .pre in
     let z = c .before .before .before .first-check in
-    let e = first-found (a .day) t (a .x) (a .words) (c .before .before .before .before .before .survey-of .ensures) (c .before .before .before .before .survey .ensures) (z .ensures) in
-    let passed = sym e ∙ passed-none (asOption (z .result)) (failed (c .before .before .is-refused .ensures) (c .before .if1 .left)) in
+    let e = first-found (a .day) t (a .x) (a .words) (c .before .before .before .before .before .survey-of .ensures)
+    (c .before .before .before .before .survey .ensures) (z .ensures) in
+    let passed = sym e ∙ passed-none (asOption (z .result)) (failed (c .before .before .is-refused .ensures)
+    (c .before .if1 .left)) in
     let n = plan-inside (a .day) (unpackedAll t) (a .x) item (a .words) passed in
     let long = records-long t in
     let i = c .index-in .ensures in
-    let inside : c .index-in .result < length t = omega arith in
-    search needs
+    omega arith
+
+mul-task-in : tie.Need-mul-task-in
+mul-task-in c = let inside = inside-at c in search needs
 
 shared-slice-element-task-in : tie.Need-shared-slice-element-task-in
-shared-slice-element-task-in c =
-    let a = c .before .before .before .before .before .before .args in
-    let t = a .t .now in
-    let item = c .before .before .before .before .before .before .pre in
-    let z = c .before .before .before .first-check in
-    let e = first-found (a .day) t (a .x) (a .words) (c .before .before .before .before .before .survey-of .ensures) (c .before .before .before .before .survey .ensures) (z .ensures) in
-    let passed = sym e ∙ passed-none (asOption (z .result)) (failed (c .before .before .is-refused .ensures) (c .before .if1 .left)) in
-    let n = plan-inside (a .day) (unpackedAll t) (a .x) item (a .words) passed in
-    let long = records-long t in
-    let i = c .index-in .ensures in
-    let inside : c .index-in .result < length t = omega arith in
-    inside
+shared-slice-element-task-in c = inside-at c
 
 task-in-requires : tie.Need-task-in-requires
 task-in-requires c κs = search needs
@@ -92,11 +88,17 @@ returns-2 c page q =
     let t = a .t .now in
     let item = c .before .before .before .before .before .before .before .before .before .before .pre in
     let z = c .before .before .before .before .before .before .before .first-check in
-    let e = first-found (a .day) t (a .x) (a .words) (c .before .before .before .before .before .before .before .before .before .survey-of .ensures) (c .before .before .before .before .before .before .before .before .survey .ensures) (z .ensures) in
-    let passed = sym e ∙ passed-none (asOption (z .result)) (failed (c .before .before .before .before .before .before .is-refused .ensures) (c .before .before .before .before .before .if1 .left)) in
+    let e = first-found (a .day) t (a .x) (a .words)
+    (c .before .before .before .before .before .before .before .before .before .survey-of .ensures)
+    (c .before .before .before .before .before .before .before .before .survey .ensures) (z .ensures) in
+    let passed = sym e ∙ passed-none (asOption (z .result)) (failed
+    (c .before .before .before .before .before .before .is-refused .ensures)
+    (c .before .before .before .before .before .if1 .left)) in
     let n = plan-inside (a .day) (unpackedAll t) (a .x) item (a .words) passed in
     let long = records-long t in
-    let s = c .before .before .before .before .before .before .before .before .survey .ensures ∙ ap (λ v. foldl surveyedBy v (unpackedAll t)) (c .before .before .before .before .before .before .before .before .before .survey-of .ensures) in
+    let s = c .before .before .before .before .before .before .before .before .survey .ensures ∙ ap
+    (λ v. foldl surveyedBy v (unpackedAll t))
+    (c .before .before .before .before .before .before .before .before .before .survey-of .ensures) in
     let i = c .before .before .before .before .index-in in
     let idle = c .before .is-idle .ensures
     ∙ ap isIdle (c .before .before .task-in .ensures

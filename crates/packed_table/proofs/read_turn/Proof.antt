@@ -77,10 +77,14 @@ turn-at-requires c κs =
     )
 
 answer-requires : tie.Need-answer-requires
-answer-requires c κs = c .before .before .before .before .before .before .before .before .before .before .before .before .before .before .before .pre .0 .turns
+answer-requires c κs =
+    let at-find = c .before .before .before .before .before .before .before in
+    at-find .before .before .before .before .before .before .before .before .pre .0 .turns
 
 accepted-requires : tie.Need-accepted-requires
-accepted-requires c κs = c .before .before .before .before .before .before .before .before .before .before .before .before .before .before .before .before .pre .0 .allows .room
+accepted-requires c κs =
+    let at-find = c .before .before .before .before .before .before .before .before in
+    at-find .before .before .before .before .before .before .before .before .pre .0 .allows .room
 
 same-length : tie.Need-same-length
 same-length c = search needs
@@ -90,27 +94,31 @@ same-length-2 c = search needs
 
 returns : tie.Need-returns
 returns c =
-    let start = c .before .before .before .before .before .before .before .before .before .before .before .before .before .before .before .before .before in
+    let at-find = c .before .before .before .before .before .before .before .before .before in
+    let at-own = at-find .before .before .before in
+    let at-place = at-own .before .before in
+    let start = at-place .before .before .before in
     let a = start .args in
     let full = start .pre .0 .full in
     let long = records-long (a .t .now) in
-    let access = c .before .before .before .before .before .before .before .before .before .before .before .before .before .before .before .access-of in
+    let access = at-place .before .access-of in
     let n : access .result .n ≡ a .day .count = ap (λ z. z .n) (access .ensures .0) ∙ access-count (a .day) (a .k) in
-    let j = c .before .before .before .before .before .before .before .before .before .before .before .before .before .before .place-of .ensures .1 in
+    let j = at-place .place-of .ensures .1 in
     let t = a .t .now in
     let ps = unpackedAll t in
     let inside = turn-inside (a .day) t (a .i) (a .k) (start .pre .0) in
-    let p = c .before .before .before .before .before .before .before .before .before .before .record-in .ensures in
+    let p = at-find .before .record-in .ensures in
     let task = ap (λ q. q .task) p ∙ turn-task (a .day) t (a .i) (a .k) (start .pre .0) in
-    let place = c .before .before .before .before .before .before .before .before .before .before .before .before .before .before .place-of in
-    let own = c .before .before .before .before .before .before .before .before .before .before .before .before .own-in in
-    let find = c .before .before .before .before .before .before .before .before .before .find-page in
+    let place = at-place .place-of in
+    let own = at-own .own-in in
+    let find = at-find .find-page in
     let by = access .ensures .0 in
     let read : own .result ≡ readAt (a .day) ps (a .k) =
     own .ensures
     ∙ register-is t (place .result) (omega arith)
     ∙ ap (λ z. getD ps z noProcess .register) (place .ensures .0 ∙ ap readsIn by) in
-    let record-in = c .before .before .before .before .before .before .before .before .before .before .record-in .ensures ∙ sym (record-is t (a .i) inside) in
+    let record-in = at-find .before .record-in .ensures
+    ∙ sym (record-is t (a .i) inside) in
     let found : find .result ≡ foundAt (a .day) ps (a .i) (a .k) =
     find .ensures .0 ∙ (λ z. findOf (by z) (read z) (record-in z)) in (
       c .accepted .ensures
@@ -118,7 +126,8 @@ returns c =
       (
         c .before .before .before .turn-at .ensures
             ∙ (λ z. packedAt t (a .i) (stateBy (by z) (read z) (p z) (found z) (task z))),
-        c .before .before .before .before .before .before .before .lay-page .ensures ∙ (λ z. pageBy (by z) (found z) (a .k) (a .page .now)),
+        c .before .before .before .before .before .before .before .lay-page .ensures ∙ (λ z. pageBy (by z) (found z)
+            (a .k) (a .page .now)),
       ),
     )
 

@@ -34,7 +34,8 @@ returns c =
     let page = a .page .now in
     let s = stateOf (a .day) (unpackedAll t) in
     let all = stepped s (itemOf page (a .x)) in
-    let opening = held (c .before .before .before .before .before .is-opening .ensures) (c .before .before .before .before .if1 .taken) in
+    let opening = held (c .before .before .before .before .before .is-opening .ensures)
+    (c .before .before .before .before .if1 .taken) in
     let number = c .before .before .number-in .ensures in
     let item = ap openFor number ∙ opening-item page (a .x) opening in
     let request = ap Open number ∙ opening-is (a .x) opening in
@@ -81,7 +82,8 @@ call-requires c κs =
     let s = stateOf (a .day) (unpackedAll t) in
     let z = c .before .before .before .before .before .plan in
     let passed = sym (z .ensures page refl)
-    ∙ passed-none (asOption (z .result)) (failed (c .before .before .before .before .is-refused .ensures) (c .before .before .before .if2 .left)) in
+    ∙ passed-none (asOption (z .result)) (failed (c .before .before .before .before .is-refused .ensures)
+    (c .before .before .before .if2 .left)) in
     let calls = held (c .before .before .is-call .ensures) (c .before .if3 .taken) in
     (calls, ap (refusalIn s) (call-same page (a .x) calls) ∙ passed)
 
@@ -97,7 +99,8 @@ returns-3 c =
     let all = stepped s (itemOf page (a .x)) in
     let z = c .before .before .before .before .before .before .before .plan in
     let passed = sym (z .ensures page refl)
-    ∙ passed-none (asOption (z .result)) (failed (c .before .before .before .before .before .before .is-refused .ensures) (c .before .before .before .before .before .if2 .left)) in
+    ∙ passed-none (asOption (z .result)) (failed (c .before .before .before .before .before .before .is-refused .ensures)
+    (c .before .before .before .before .before .if2 .left)) in
     let calls = held (c .before .before .before .before .is-call .ensures) (c .before .before .before .if3 .taken) in
     let same = stepped-accepted s (itemOf page (a .x)) passed in
     let even = ap (acceptedIn s) (call-same page (a .x) calls) ∙ same in
@@ -118,8 +121,10 @@ turn-on-requires c κs =
     let page = a .page .now in
     let z = c .before .before .before .before .before .before .plan in
     let passed = sym (z .ensures page refl)
-    ∙ passed-none (asOption (z .result)) (failed (c .before .before .before .before .before .is-refused .ensures) (c .before .before .before .before .if2 .left)) in
-    let later = failed (c .before .before .before .before .before .before .before .before .before .is-opening .ensures) (c .before .before .before .before .before .before .before .before .if1 .left) in
+    ∙ passed-none (asOption (z .result)) (failed (c .before .before .before .before .before .is-refused .ensures)
+    (c .before .before .before .before .if2 .left)) in
+    let later = failed (c .before .before .before .before .before .before .before .before .before .is-opening .ensures)
+    (c .before .before .before .before .before .before .before .before .if1 .left) in
     let turns = failed (c .before .before .before .is-call .ensures) (c .before .before .if3 .left) in
     (later, turns, passed)
 
@@ -138,9 +143,13 @@ returns-4 c =
     let all = stepped s (itemOf page (a .x)) in
     let z = c .before .before .before .before .before .before .before .before .before .before .plan in
     let passed = sym (z .ensures page refl)
-    ∙ passed-none (asOption (z .result)) (failed (c .before .before .before .before .before .before .before .before .before .is-refused .ensures) (c .before .before .before .before .before .before .before .before .if2 .left)) in
-    let later = failed (c .before .before .before .before .before .before .before .before .before .before .before .before .before .is-opening .ensures) (c .before .before .before .before .before .before .before .before .before .before .before .before .if1 .left) in
-    let turns = failed (c .before .before .before .before .before .before .before .is-call .ensures) (c .before .before .before .before .before .before .if3 .left) in
+    ∙ passed-none (asOption (z .result)) (failed
+    (c .before .before .before .before .before .before .before .before .before .is-refused .ensures)
+    (c .before .before .before .before .before .before .before .before .if2 .left)) in
+    let at-if = c .before .before .before .before .before .before .before .before .before .before .before .before in
+    let later = failed (at-if .before .is-opening .ensures) (at-if .if1 .left) in
+    let turns = failed (c .before .before .before .before .before .before .before .is-call .ensures)
+    (c .before .before .before .before .before .before .if3 .left) in
     let same = stepped-accepted s (itemOf page (a .x)) passed in
     let answer = sym (ap (λ r. isRefused (r .answer)) same)
     ∙ turn-accepted (a .day) (unpackedAll t) page (a .x) later turns passed in

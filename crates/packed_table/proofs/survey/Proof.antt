@@ -13,7 +13,8 @@ use Rattle.packed_table.proofs.survey.Statement.{statement}
 use Rattle.packed_table.proofs.survey.Tie as tie
 
 abbrev Inv-loop : tie.InvT-loop
-Inv-loop t found₀ i₀ found i = (i ≤ length t) × (foldl surveyedBy found (unpackedAll (drop i t)) ≡ foldl surveyedBy found₀ (unpackedAll t))
+Inv-loop t found₀ i₀ found i = (i ≤ length t) × (foldl surveyedBy found (unpackedAll (drop i t)) ≡ foldl surveyedBy found₀
+    (unpackedAll t))
 
 abbrev μ-loop : tie.MeasureT-loop
 μ-loop t found₀ i₀ found i = length t - i

@@ -68,7 +68,8 @@ returns c =
     let whole = c .before .before .before .before .before .lay-record in
     let first = c .before .before .before .lay-own in
     let none = c .before .idle in
-    let ended = sym (c .before .before .before .before .before .before .before .before .before .before .ends .ensures) ∙ c .before .before .before .before .before .before .before .before .before .if1 .taken in
+    let ended = sym (c .before .before .before .before .before .before .before .before .before .before .ends .ensures)
+    ∙ c .before .before .before .before .before .before .before .before .before .if1 .taken in
     let words : length (b .result .register .view) ≡ 8 =
     sym (length-map (b .result .register .view) (u32-field .into)) ∙ b .ok .1 .1 .0 .1 .1 .1 .1 .0 .1 .0 .1 in
     let own-words : length (own .result .view) ≡ 8 =
@@ -126,7 +127,8 @@ returns-2 c =
     let b = c .before .before .before .before .before .read in
     let whole = c .before .before .before .lay-record2 in
     let task = c .before .task-after in
-    let goes-on = sym (c .before .before .before .before .before .before .before .ends .ensures) ∙ c .before .before .before .before .before .before .if1 .left in
+    let goes-on = sym (c .before .before .before .before .before .before .before .ends .ensures)
+    ∙ c .before .before .before .before .before .before .if1 .left in
     let words : length (b .result .register .view) ≡ 8 =
     sym (length-map (b .result .register .view) (u32-field .into)) ∙ b .ok .1 .1 .0 .1 .1 .1 .1 .0 .1 .0 .1 in
     set-set t (a .i) (whole .last .0) (c .lay-task2 .last .0)

@@ -99,7 +99,8 @@ returns c =
     c .before .before .before .before .before .task-in .ensures
     ∙ ap (λ j. unpackTask (drop 11 (getD t j []))) i
     ∙ task-is t (numberIn (a .x) - 1) inside in
-    let ready = sym (c .before .before .before .before .is-ready .ensures ∙ ap isReady task) ∙ c .before .before .before .if1 .taken in
+    let ready = sym (c .before .before .before .before .is-ready .ensures ∙ ap isReady task)
+    ∙ c .before .before .before .if1 .taken in
     let f = nothingFound 0 in
     let k = getD ps (numberIn (a .x) - 1) noProcess .task in
     let turned : Process → Process = λ p. stateBy (accessOf (a .day) k) zeroRegister p f k in
@@ -158,7 +159,8 @@ returns-2 c =
     c .before .before .before .before .before .before .before .before .task-in .ensures
     ∙ ap (λ j. unpackTask (drop 11 (getD t j []))) i
     ∙ task-is t (numberIn (a .x) - 1) inside in
-    let unready = sym (c .before .before .before .before .before .before .before .is-ready .ensures ∙ ap isReady task) ∙ c .before .before .before .before .before .before .if1 .left in
+    let unready = sym (c .before .before .before .before .before .before .before .is-ready .ensures ∙ ap isReady task)
+    ∙ c .before .before .before .before .before .before .if1 .left in
     let k = getD ps (numberIn (a .x) - 1) noProcess .task in
     let f = foundAt (a .day) ps (numberIn (a .x) - 1) k in
     let turned : Process → Process = λ p. stateBy (accessOf (a .day) k) (readAt (a .day) ps k) p f k in
