@@ -31,30 +31,21 @@ index-in-requires c κs =
     let h = start .pre in
     admits (a .day) ps (a .page .now) (a .x) (h .0) (h .2) .suited .among .0
 
-mul-task-in : tie.Need-mul-task-in
-mul-task-in c =
+-- the record of the turn is one of the table's
+inside-at : (c : tie.After-index-in) → c .index-in .result < length (c .before .before .args .t .now)
+inside-at c =
     let start = c .before .before in
     let a = start .args in
-    let t = a .t .now in
-    let ps = unpackedAll t in
-    let h = start .pre in
-    let l = admits-inside (a .day) ps (a .page .now) (a .x) (h .0) (h .2) in
-    let long = records-long t in
-    let i = c .index-in .ensures in
-    let inside : c .index-in .result < length t = omega arith in
-    search needs
-
-index-1-task-in : tie.Need-index-1-task-in
-index-1-task-in c =
-    let start = c .before .before in
-    let a = start .args in
-    let t = a .t .now in
-    let ps = unpackedAll t in
-    let h = start .pre in
-    let l = admits-inside (a .day) ps (a .page .now) (a .x) (h .0) (h .2) in
-    let long = records-long t in
+    let l = admits-inside (a .day) (unpackedAll (a .t .now)) (a .page .now) (a .x) (start .pre .0) (start .pre .2) in
+    let long = records-long (a .t .now) in
     let i = c .index-in .ensures in
     omega arith
+
+mul-task-in : tie.Need-mul-task-in
+mul-task-in c = let inside = inside-at c in search needs
+
+index-1-task-in : tie.Need-index-1-task-in
+index-1-task-in c = inside-at c
 
 task-in-requires : tie.Need-task-in-requires
 task-in-requires c κs = search needs
