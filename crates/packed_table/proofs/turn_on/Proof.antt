@@ -50,6 +50,19 @@ index-1-task-in c = inside-at c
 task-in-requires : tie.Need-task-in-requires
 task-in-requires c κs = search needs
 
+-- and its task is what was read
+task-at : (c : tie.After-task-in) →
+    let a = c .before .before .before .before .args in
+    let i = numberIn (a .x) - 1 in
+    (i < length (a .t .now)) × (c .task-in .result ≡ getD (unpackedAll (a .t .now)) i noProcess .task)
+task-at c =
+    let a = c .before .before .before .before .args in
+    let i = c .before .before .index-in .ensures in
+    let inside = subst (λ k. k < length (a .t .now)) i (inside-at (c .before .before)) in (
+      inside,
+      c .task-in .ensures ∙ ap (λ j. unpackTask (drop 11 (getD (a .t .now) j []))) i ∙ task-is (a .t .now) (numberIn (a .x) - 1) inside,
+    )
+
 is-ready-requires : tie.Need-is-ready-requires
 is-ready-requires c κs = search needs
 
@@ -60,14 +73,10 @@ write-turn-requires c κs =
     let t = a .t .now in
     let ps = unpackedAll t in
     let h = start .pre in
-    let l = admits-inside (a .day) ps (a .page .now) (a .x) (h .0) (h .2) in
-    let long = records-long t in
-    let inside : numberIn (a .x) - 1 < length t = omega arith in
     let i = c .before .before .before .before .before .index-in .ensures in
-    let task : c .before .before .before .task-in .result ≡ getD ps (numberIn (a .x) - 1) noProcess .task =
-    c .before .before .before .task-in .ensures
-    ∙ ap (λ j. unpackTask (drop 11 (getD t j []))) i
-    ∙ task-is t (numberIn (a .x) - 1) inside in
+    let at-task = c .before .before .before in
+    let inside = task-at at-task .0 in
+    let task = task-at at-task .1 in
     subst (λ z. TurnAt (a .day) ps z (c .before .before .before .task-in .result)) (sym i)
     (subst (λ z. TurnAt (a .day) ps (numberIn (a .x) - 1) z) (sym task)
     (turn-at (a .day) ps (a .page .now) (a .x) (h .0) (h .1) (h .2)))
@@ -82,14 +91,10 @@ returns c =
     let t = a .t .now in
     let ps = unpackedAll t in
     let h = start .pre in
-    let l = admits-inside (a .day) ps (a .page .now) (a .x) (h .0) (h .2) in
-    let long = records-long t in
-    let inside : numberIn (a .x) - 1 < length t = omega arith in
     let i = c .before .before .before .before .before .before .before .index-in .ensures in
-    let task : c .before .before .before .before .before .task-in .result ≡ getD ps (numberIn (a .x) - 1) noProcess .task =
-    c .before .before .before .before .before .task-in .ensures
-    ∙ ap (λ j. unpackTask (drop 11 (getD t j []))) i
-    ∙ task-is t (numberIn (a .x) - 1) inside in
+    let at-task = c .before .before .before .before .before in
+    let inside = task-at at-task .0 in
+    let task = task-at at-task .1 in
     let ready = sym (c .before .before .before .before .is-ready .ensures ∙ ap isReady task)
     ∙ c .before .before .before .if1 .taken in
     let f = nothingFound 0 in
@@ -142,14 +147,10 @@ returns-2 c =
     let t = a .t .now in
     let ps = unpackedAll t in
     let h = start .pre in
-    let l = admits-inside (a .day) ps (a .page .now) (a .x) (h .0) (h .2) in
-    let long = records-long t in
-    let inside : numberIn (a .x) - 1 < length t = omega arith in
     let i = c .before .before .before .before .before .before .before .before .before .before .index-in .ensures in
-    let task : c .before .before .before .before .before .before .before .before .task-in .result ≡ getD ps (numberIn (a .x) - 1) noProcess .task =
-    c .before .before .before .before .before .before .before .before .task-in .ensures
-    ∙ ap (λ j. unpackTask (drop 11 (getD t j []))) i
-    ∙ task-is t (numberIn (a .x) - 1) inside in
+    let at-task = c .before .before .before .before .before .before .before .before in
+    let inside = task-at at-task .0 in
+    let task = task-at at-task .1 in
     let unready = sym (c .before .before .before .before .before .before .before .is-ready .ensures ∙ ap isReady task)
     ∙ c .before .before .before .before .before .before .if1 .left in
     let k = getD ps (numberIn (a .x) - 1) noProcess .task in
