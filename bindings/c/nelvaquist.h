@@ -63,9 +63,9 @@ enum {
 
 /* Why a request or a day file is refused. The numbers stay as they are; later versions may add some.
  *
- * Where several apply, the first in this order is given. A kind that is none: 8. Opening: 10, 1, 6. Call or turn: 10, 6, 11,
- * 2, then 3 or 4, then 5. Day file: 7 if one byte is left, 9 if the length is outside 4 to 8, 7, 8,
- * then 9. */
+ * Where several apply, the first in this order is given. A kind that is none: 8. Opening: 10, 1, 6.
+ * Call or turn: 10, 6, 11, 2, then 3 or 4, then 5. Day file: 7 if one byte is left, 9 if the length
+ * is outside 4 to 8, 7, 8, then 9. */
 enum {
     NQ_DESK_COUNT = 1,   /* The desk count asked for is outside 1 to 8. */
     NQ_NO_SUCH_DESK = 2, /* The desk number is outside 1 to n. */

@@ -9,7 +9,8 @@ use std::collections::BTreeMap;
 /// Counts above this stand in one column.
 const LAST_COLUMN: usize = 12;
 
-/// What must be reached, for these n. Column 0 has what is met on a day of no desks.
+/// What must be reached, for these n. Column 0 has what is met on a day of no desks, and what is
+/// counted whatever the n.
 const REQUIRED: &[(&str, usize, usize)] = &[
     ("openings", 1, 8),
     ("entry calls", 1, 8),
@@ -68,6 +69,14 @@ const REQUIRED: &[(&str, usize, usize)] = &[
     (ENTRY_BEYOND, 1, 8),
     (READY_BEYOND, 1, 8),
     (UNKNOWN_TASK, 1, 8),
+    ("calls refused with 11 for an unknown task kind alone", 1, 8),
+    ("turns refused with 11 for an unknown task kind alone", 1, 8),
+    ("openings over an unknown task kind", 1, 8),
+    ("unknown task kinds behind refusal 10 of a call or a turn", 0, 0),
+    ("unknown task kinds behind refusal 6 by the table", 1, 8),
+    ("unknown task kinds behind refusal 6 by the page list", 1, 8),
+    ("unknown task kinds alone, and no such desk", 0, 0),
+    ("unknown task kinds alone, after the last event", 0, 0),
 ];
 
 const COUNT_ABOVE: &str = "refusal 11 alone by a count above 8, with as many records";
@@ -129,6 +138,9 @@ impl Counts {
 
     /// Takes in a request on a state, and its outcome.
     pub fn watch(&mut self, before: &State, request: Request, outcome: &Outcome) {
+        if before.table.iter().any(|words| words[KIND] > READY) {
+            self.unknown_task(before, request, outcome.reply);
+        }
         match outcome.reply.kind {
             REFUSED => self.refused(before, request, outcome.reply.refusal),
             OPENED => self.add("openings", request.process as usize),
@@ -167,6 +179,29 @@ impl Counts {
             if let [cause] = causes(before).as_slice() {
                 self.add(cause, n);
             }
+        }
+    }
+
+    /// A request on a table that has a task of an unknown kind.
+    fn unknown_task(&mut self, before: &State, request: Request, reply: Reply) {
+        let n = before.count as usize;
+        let turn = request.kind == TURN;
+        let sized = before.table.len() == n;
+        match (request.kind, reply.refusal) {
+            (OPENING, 0) => self.add("openings over an unknown task kind", before.table.len()),
+            (OPENING, _) => {}
+            (_, 10) => self.add("unknown task kinds behind refusal 10 of a call or a turn", n),
+            (_, 6) if sized => self.add("unknown task kinds behind refusal 6 by the page list", n),
+            (_, 6) => self.add("unknown task kinds behind refusal 6 by the table", n),
+            (_, 11) if causes(before) == [UNKNOWN_TASK] => {
+                self.add_if(!turn, "calls refused with 11 for an unknown task kind alone", n);
+                self.add_if(turn, "turns refused with 11 for an unknown task kind alone", n);
+                let no_desk = request.process == 0 || request.process > before.count;
+                self.add_if(no_desk, "unknown task kinds alone, and no such desk", 0);
+                let last = before.event == LAST_EVENT;
+                self.add_if(last, "unknown task kinds alone, after the last event", 0);
+            }
+            _ => {}
         }
     }
 

@@ -41,30 +41,29 @@ pub fn place(collect: usize, j: usize) -> usize {
     collect + j * ROW_WORDS
 }
 
-/// The model's record of these words. "Words 12, 13 (and 14) that a kind does not have are ignored."
-pub fn unpack(words: &Words) -> Desk {
+/// The model's record of these words, if their task kind is one: the model has no other task.
+pub fn unpack(words: &Words) -> Option<Desk> {
     let row = |collect| move |j| unpack_row(&words[place(collect, j)..]);
-    Desk {
+    Some(Desk {
         row: unpack_row(&words[ROW..]),
-        task: unpack_task(words),
+        task: unpack_task(words)?,
         marks: std::array::from_fn(|j| words[MARKS + j] != 0),
         kept: unpack_view(&words[KEPT..]),
         first: std::array::from_fn(row(FIRST)),
         second: std::array::from_fn(row(SECOND)),
         first_ended: words[FIRST_ENDED],
-    }
+    })
 }
 
-/// "A task kind above 3 is a day that cannot have arisen: refusal 11, in its place in the order." The
-/// model has no such task; a page with more turns than any can have is refused just so.
-fn unpack_task(words: &Words) -> Task {
+/// "Words 12, 13 (and 14) that a kind does not have are ignored."
+fn unpack_task(words: &Words) -> Option<Task> {
     let (word, at, turns) = (words[TASK_WORD], words[TASK_AT], words[TURNS]);
     match words[KIND] {
-        IDLE => Task::Idle,
-        PAGE => Task::Page { turns },
-        ENTRY => Task::Entry { turns, word },
-        READY => Task::Ready { turns, word, at },
-        _ => Task::Page { turns: u32::MAX },
+        IDLE => Some(Task::Idle),
+        PAGE => Some(Task::Page { turns }),
+        ENTRY => Some(Task::Entry { turns, word }),
+        READY => Some(Task::Ready { turns, word, at }),
+        _ => None,
     }
 }
 

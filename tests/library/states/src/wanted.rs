@@ -5,12 +5,20 @@ use crate::state::*;
 use model::dayfile::{self, Record};
 use model::register::{Day, Desk, Refusal, Turn};
 
-/// The model's outcome. "On a refusal nothing is written."
+/// The model's outcome, but 11 where there is a task of a kind that the model does not have. "On a
+/// refusal nothing is written."
 pub fn wanted(before: &State, request: Request) -> Outcome {
     let mut day = Day { desks: before.count, event: before.event };
-    let mut table: Vec<Desk> = before.table.iter().map(unpack).collect();
     let mut page = before.page.clone();
-    match ask(&mut day, &mut table, &mut page, request) {
+    let records: Option<Vec<Desk>> = before.table.iter().map(unpack).collect();
+    let unknown_task = records.is_none();
+    // Blank records stand in for those: what comes before 11 does not go by records.
+    let mut table = records.unwrap_or_else(|| vec![Desk::default(); before.table.len()]);
+    let mut answer = ask(&mut day, &mut table, &mut page, request);
+    if unknown_task {
+        answer = cannot_have_arisen(request, answer);
+    }
+    match answer {
         Err(refusal) => {
             let reply = Reply { refusal: refusal as u32, ..Reply::default() };
             Outcome { reply, after: before.clone() }
@@ -39,6 +47,20 @@ fn ask(
     }
 }
 
+/// What is answered where a task kind is none. "A task kind that is none is a day that cannot have
+/// arisen: 11, in its place in the order", and that order is, for calls and turns, "10, 6, 11, 2,
+/// then 3 or 4, then 5". An opening does not look at it.
+fn cannot_have_arisen(
+    request: Request,
+    otherwise: Result<Reply, Refusal>,
+) -> Result<Reply, Refusal> {
+    match (request.kind, otherwise) {
+        (ENTRY_CALL | PAGE_CALL | TURN, Err(Refusal::OpenOrNot | Refusal::LentSize)) => otherwise,
+        (ENTRY_CALL | PAGE_CALL | TURN, _) => Err(Refusal::CannotHaveArisen),
+        _ => otherwise,
+    }
+}
+
 fn plain(kind: u32) -> Reply {
     Reply { kind, ..Reply::default() }
 }
@@ -62,7 +84,7 @@ fn written(before: &State, request: Request, after: &[Desk]) -> Vec<Words> {
     }
     let own = request.process as usize - 1;
     for (j, words) in before.table.iter().enumerate() {
-        assert!(j == own || after[j] == unpack(words), "the model changes another record");
+        assert!(j == own || unpack(words) == Some(after[j]), "the model changes another record");
     }
     let mut table = before.table.clone();
     table[own] = pack(&after[own]);

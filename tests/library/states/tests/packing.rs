@@ -21,7 +21,7 @@ fn row(from: u32) -> Row {
 
 #[test]
 fn each_word_has_its_place() {
-    let desk = unpack(&numbered(3));
+    let desk = unpack(&numbered(3)).unwrap();
     let wanted = Desk {
         row: row(0),
         task: Task::Ready { word: 12, at: 13, turns: 14 },
@@ -44,9 +44,16 @@ fn tasks_have_some_of_the_words() {
         (3, Task::Ready { word: 12, at: 13, turns: 14 }, [12, 13, 14]),
     ];
     for (kind, task, words) in tasks {
-        let desk = unpack(&numbered(kind));
+        let desk = unpack(&numbered(kind)).unwrap();
         assert_eq!(desk.task, task);
         assert_eq!(pack(&desk)[11..15], [&[kind], words.as_slice()].concat());
+    }
+}
+
+#[test]
+fn a_kind_that_is_none_has_no_task() {
+    for kind in [4, 5, 255, 256, 1 << 16, u32::MAX] {
+        assert_eq!(unpack(&numbered(kind)), None);
     }
 }
 
@@ -55,7 +62,7 @@ fn any_number_but_0_is_a_mark() {
     let mut words = [0; WORDS];
     words[200] = 2;
     words[207] = u32::MAX;
-    let desk = unpack(&words);
+    let desk = unpack(&words).unwrap();
     assert_eq!(desk.marks, [true, false, false, false, false, false, false, true]);
     assert_eq!(pack(&desk)[200..], [1, 0, 0, 0, 0, 0, 0, 1]);
 }
@@ -66,8 +73,8 @@ fn a_record_comes_back() {
     for _ in 0..1_000 {
         let mut words: Words = std::array::from_fn(|_| random.draw() as u32);
         words[11] %= 4;
-        let desk = unpack(&words);
-        assert_eq!(unpack(&pack(&desk)), desk);
+        let desk = unpack(&words).unwrap();
+        assert_eq!(unpack(&pack(&desk)), Some(desk));
     }
 }
 
