@@ -1,19 +1,19 @@
 -- A record whose arrays have their eight places is unpacked as it was packed (`unpack-packed`).
 use Prim.Native.Nat.{ℕ, zero, suc, _+_, _*_, _<_}
-use native.Mathlib.Nat.{zero-add}
+use native.Mathlib.Nat.{zero-add, not-suc-le-zero}
 use native.Mathlib.Omega.{arith}
 use mathlib.Core.Path.{_≡_, refl, sym, ap, ap₂, subst, _∙_}
 use mathlib.Core.Bool.{Bool, true, false}
 use mathlib.Core.List.{List, [], _∷_, _++_, map, append-assoc, append-nil}
 use lib.ListN.{length, getD, take, drop, set, length-append, length-map}
-use lib.Seq.{sets, take-at, drop-at, drop-drop, getD-drop, getD-append-add}
+use lib.Seq.{sets, take-all, take-at, drop-at, drop-drop, getD-drop, getD-append-add}
 use Rattle.unbounded.specs.declared.Register.{Register}
 use Rattle.unbounded.specs.declared.Process.{Process}
 use Rattle.unbounded.specs.declared.Task.{Task}
 use Rattle.unbounded.specs.declared.Task.the-variants.{Idle, Scan, Update, Ready}
 use Rattle.unbounded.specs.Registers.{noRegister}
 use Rattle.unbounded.proofs.Whole.{Whole, WholeCollect}
-use Rattle.packed.specs.Packing.{packRegister, packTask, packCollect, packMark, packRecord}
+use Rattle.packed.specs.Packing.{packRegister, storedAt, packTask, packCollect, packMark, packRecord}
 use Rattle.packed.proofs.Words.{words-take, sets-next}
 use Rattle.packed.specs.Packing.{wordAt, words, unpackRegister, unpackTask, unpackCollect, unpackMark, unpackRecord}
 
@@ -32,6 +32,13 @@ words-at xs ys k e = words-take k (xs ++ ys) (simp length-append (omega (arith, 
 
 pub register-long : (r : Register) → length (r .view) ≡ 8 → length (packRegister r) ≡ 11
 register-long r e = simp (length-append, e)
+
+-- a register stored with all eight words of its view
+pub stored-whole : (ws : List ℕ) (r : Register) (a : ℕ) → length (r .view) ≡ 8 → storedAt 8 r a ws ≡ sets ws a (packRegister r)
+unfolding storedAt
+stored-whole ws r a e =
+    ap (λ v. sets (sets ws a (r .word ∷ r .seq ∷ v)) (a + 10) (r .at ∷ [])) (take-all 8 (r .view) (omega (arith, e)))
+    ∙ sym (sets-next ws a (r .word ∷ r .seq ∷ r .view) (r .at ∷ []) (a + 10) (omega (arith, e)))
 
 pub task-long : (k : Task) → length (packTask k) ≡ 4
 task-long Idle = refl
@@ -125,14 +132,18 @@ unpack-marks (false ∷ ms) = ap (λ l. false ∷ l) (unpack-marks ms)
 
 -- ---- a record
 
+-- every array of a record has its eight places, the marks too, as in every record that code can lend
+abbrev pub Eights : Process → Type 0
+Eights p = Whole p × (length (p .moved) ≡ 8)
+
 views-all : (rs : List Register) → ((i : ℕ) → i < length rs → length (getD rs i noRegister .view) ≡ 8) → Views rs
 views-all [] h = tt
 views-all (r ∷ rs) h = (h 0 (omega arith), views-all rs (λ i l. h (suc i) (omega arith)))
 
-collect-views : (rs : List Register) → WholeCollect rs → Views rs
+pub collect-views : (rs : List Register) → WholeCollect rs → Views rs
 collect-views rs c = views-all rs (λ i l. c .views i (subst (λ k. i < k) (c .places) l))
 
-module _ (p : Process) (w : Whole p) (marks : length (p .moved) ≡ 8) where
+module _ (p : Process) (e : Eights p) where
   abbrev A : List ℕ
   A = packRegister (p .register)
 
@@ -151,14 +162,14 @@ module _ (p : Process) (w : Whole p) (marks : length (p .moved) ≡ 8) where
   abbrev G : List ℕ
   G = map packMark (p .moved)
 
-  first-long : length C ≡ 88
-  first-long = collect-long (p .first) (collect-views (p .first) (w .first)) ∙ ap (λ k. 11 * k) (w .first .places)
+  pub first-long : length C ≡ 88
+  first-long = collect-long (p .first) (collect-views (p .first) (e .0 .first)) ∙ ap (λ k. 11 * k) (e .0 .first .places)
 
-  second-long : length D ≡ 88
-  second-long = collect-long (p .second) (collect-views (p .second) (w .second)) ∙ ap (λ k. 11 * k) (w .second .places)
+  pub second-long : length D ≡ 88
+  second-long = collect-long (p .second) (collect-views (p .second) (e .0 .second)) ∙ ap (λ k. 11 * k) (e .0 .second .places)
 
-  own-long : length A ≡ 11
-  own-long = register-long (p .register) (w .register)
+  pub own-long : length A ≡ 11
+  own-long = register-long (p .register) (e .0 .register)
 
   -- the end of the first collect and what follows, and so on back to the task
   abbrev from-end : List ℕ
@@ -176,12 +187,12 @@ module _ (p : Process) (w : Whole p) (marks : length (p .moved) ≡ 8) where
   pub packed-long : length (packRecord p) ≡ 208
   unfolding packRecord
   packed-long =
-      let a = w .register in
+      let a = e .0 .register in
       let b = task-long (p .task) in
       let c = first-long in
       let d = second-long in
-      let f = w .view in
-      let g : length G ≡ 8 = length-map (p .moved) packMark ∙ marks in
+      let f = e .0 .view in
+      let g : length G ≡ 8 = length-map (p .moved) packMark ∙ e .1 in
       simp (length-append, a, b, c, d, f, g)
 
   -- what stands from each part on
@@ -191,38 +202,44 @@ module _ (p : Process) (w : Whole p) (marks : length (p .moved) ≡ 8) where
 
   past-task : (m : ℕ) → drop (15 + m) (packRecord p) ≡ drop m from-first
   past-task m =
-      let e : 15 + m ≡ 11 + (4 + m) = omega arith in
-      ap (λ k. drop k (packRecord p)) e ∙ past-own (4 + m) ∙ skip B from-first 4 m (task-long (p .task))
+      let q : 15 + m ≡ 11 + (4 + m) = omega arith in
+      ap (λ k. drop k (packRecord p)) q ∙ past-own (4 + m) ∙ skip B from-first 4 m (task-long (p .task))
 
   past-first : (m : ℕ) → drop (103 + m) (packRecord p) ≡ drop m from-second
   past-first m =
-      let e : 103 + m ≡ 15 + (88 + m) = omega arith in
-      ap (λ k. drop k (packRecord p)) e ∙ past-task (88 + m) ∙ skip C from-second 88 m first-long
+      let q : 103 + m ≡ 15 + (88 + m) = omega arith in
+      ap (λ k. drop k (packRecord p)) q ∙ past-task (88 + m) ∙ skip C from-second 88 m first-long
 
   past-second : (m : ℕ) → drop (191 + m) (packRecord p) ≡ drop m from-end
   past-second m =
-      let e : 191 + m ≡ 103 + (88 + m) = omega arith in
-      ap (λ k. drop k (packRecord p)) e ∙ past-first (88 + m) ∙ skip D from-end 88 m second-long
+      let q : 191 + m ≡ 103 + (88 + m) = omega arith in
+      ap (λ k. drop k (packRecord p)) q ∙ past-first (88 + m) ∙ skip D from-end 88 m second-long
 
   unpack-first : unpackCollect 8 from-first ≡ p .first
   unpack-first =
-      ap (λ k. unpackCollect k from-first) (sym (w .first .places))
-      ∙ unpack-collect (p .first) from-second (collect-views (p .first) (w .first))
+      ap (λ k. unpackCollect k from-first) (sym (e .0 .first .places))
+      ∙ unpack-collect (p .first) from-second (collect-views (p .first) (e .0 .first))
 
   unpack-second : unpackCollect 8 from-second ≡ p .second
   unpack-second =
-      ap (λ k. unpackCollect k from-second) (sym (w .second .places))
-      ∙ unpack-collect (p .second) from-end (collect-views (p .second) (w .second))
+      ap (λ k. unpackCollect k from-second) (sym (e .0 .second .places))
+      ∙ unpack-collect (p .second) from-end (collect-views (p .second) (e .0 .second))
 
-  unpack-moved : map unpackMark (words 8 (drop 9 from-end)) ≡ p .moved
-  unpack-moved =
-      let g : length G ≡ 8 = length-map (p .moved) packMark ∙ marks in
-      ap (λ l. map unpackMark (words 8 l)) (drop-at F (G ++ []) 8 (w .view))
-      ∙ ap (map unpackMark) (words-at G [] 8 g) ∙ unpack-marks (p .moved)
+  -- the words of the task, and of the marks
+  pub packed-task : words 4 (drop 11 (packRecord p)) ≡ packTask (p .task)
+  packed-task = ap (words 4) (past-own 0) ∙ words-at B from-first 4 (task-long (p .task))
+
+  pub packed-marks : words 8 (drop 200 (packRecord p)) ≡ map packMark (p .moved)
+  packed-marks =
+      let g : length G ≡ 8 = length-map (p .moved) packMark ∙ e .1 in
+      ap (words 8) (past-second 9 ∙ drop-at F (G ++ []) 8 (e .0 .view)) ∙ words-at G [] 8 g
+
+  unpack-moved : map unpackMark (words 8 (drop 200 (packRecord p))) ≡ p .moved
+  unpack-moved = ap (map unpackMark) packed-marks ∙ unpack-marks (p .moved)
 
   unpack-own : unpackRegister (packRecord p) ≡ p .register
   unfolding packRecord
-  unpack-own = unpack-register (p .register) from-task (w .register)
+  unpack-own = unpack-register (p .register) from-task (e .0 .register)
 
   pub unpack-packed : unpackRecord (packRecord p) ≡ p
   unfolding unpackRecord
@@ -232,8 +249,7 @@ module _ (p : Process) (w : Whole p) (marks : length (p .moved) ≡ 8) where
       let second = ap (unpackCollect 8) (past-first 0) ∙ unpack-second in
       let end : wordAt (packRecord p) 191 ≡ p .«first_end» =
       sym (getD-drop 191 (packRecord p) 0 0) ∙ ap (λ l. wordAt l 0) (past-second 0) in
-      let view = ap (words 8) (past-second 1) ∙ words-at F (G ++ []) 8 (w .view) in
-      let moved = ap (λ l. map unpackMark (words 8 l)) (past-second 9) ∙ unpack-moved in
+      let view = ap (words 8) (past-second 1) ∙ words-at F (G ++ []) 8 (e .0 .view) in
       λ i. record {
         register = unpack-own i;
         task = task i;
@@ -241,5 +257,21 @@ module _ (p : Process) (w : Whole p) (marks : length (p .moved) ≡ 8) where
         second = second i;
         «first_end» = end i;
         view = view i;
-        moved = moved i;
+        moved = unpack-moved i;
       }
+
+-- ---- any words
+
+views-unpacked : (k : ℕ) (ws : List ℕ) (i : ℕ) → i < k → length (getD (unpackCollect k ws) i noRegister .view) ≡ 8
+views-unpacked zero ws i l = absurd (not-suc-le-zero l)
+views-unpacked (suc k) ws zero l = refl
+views-unpacked (suc k) ws (suc i) l = views-unpacked k (drop 11 ws) i (omega arith)
+
+collect-whole : (ws : List ℕ) → WholeCollect (unpackCollect 8 ws)
+collect-whole ws = record { places = refl; views = views-unpacked 8 ws }
+
+-- a record unpacked from any words has its eight places everywhere
+pub unpack-whole : (ws : List ℕ) → Eights (unpackRecord ws)
+unfolding unpackRecord
+unpack-whole ws =
+    (record { register = refl; view = refl; first = collect-whole (drop 15 ws); second = collect-whole (drop 103 ws) }, refl)

@@ -3,9 +3,9 @@ use Prim.Native.Nat.{ℕ, zero, suc, _+_, _≤_, _<_}
 use native.Mathlib.Nat.{add-zero, zero-add, not-suc-le-zero}
 use native.Mathlib.Omega.{arith}
 use mathlib.Core.Path.{_≡_, refl, sym, ap, ap₂, _∙_}
-use mathlib.Core.List.{List, [], _∷_, _++_, append-nil}
-use lib.ListN.{length, take, drop, set}
-use lib.Seq.{drop-drop, drop-length, getD-drop, set-set, set-comm, sets, sets-eq}
+use mathlib.Core.List.{List, [], _∷_, _++_, append-nil, append-assoc}
+use lib.ListN.{length, take, drop, set, take-append-drop, length-drop}
+use lib.Seq.{drop-drop, drop-length, getD-drop, length-take-le, set-set, set-comm, sets, sets-eq}
 use Rattle.packed.specs.Packing.{wordAt, words}
 
 -- words that are there
@@ -13,6 +13,15 @@ pub words-take : (k : ℕ) (l : List ℕ) → k ≤ length l → words k l ≡ t
 words-take zero l h = refl
 words-take (suc k) [] h = absurd (omega (arith, h))
 words-take (suc k) (x ∷ l) h = ap (λ r. x ∷ r) (words-take k l (omega (arith, h)))
+
+-- so many words, and those after them
+pub words-append : (a b : ℕ) (ws : List ℕ) → words a ws ++ words b (drop a ws) ≡ words (a + b) ws
+words-append zero b ws = ap (λ k. words k ws) (sym (zero-add b))
+words-append (suc a) b ws =
+    let e : suc (a + b) ≡ suc a + b = omega arith in
+    let one : suc a ≡ 1 + a = omega arith in
+    ap (λ l. wordAt ws 0 ∷ (words a (drop 1 ws) ++ words b l)) (ap (λ k. drop k ws) one ∙ sym (drop-drop a 1 ws))
+    ∙ ap (λ l. wordAt ws 0 ∷ l) (words-append a b (drop 1 ws)) ∙ ap (λ k. words k ws) e
 
 -- the words from place a + m on
 words-from : (ws : List ℕ) (a k m : ℕ) → words (suc k) (drop (a + m) ws) ≡ wordAt ws (a + m) ∷ words k (drop (a + suc m) ws)
@@ -35,6 +44,23 @@ eight-words ws a =
     ∙ ap (λ r. wordAt ws (a + 4) ∷ r) (words-from ws a 2 5
     ∙ ap (λ r. wordAt ws (a + 5) ∷ r) (words-from ws a 1 6
     ∙ ap (λ r. wordAt ws (a + 6) ∷ r) (words-from ws a 0 7)))))))
+
+-- ---- stores
+
+-- behind an element
+pub sets-cons : (x : ℕ) (l : List ℕ) (k : ℕ) (vs : List ℕ) → sets (x ∷ l) (suc k) vs ≡ x ∷ sets l k vs
+sets-cons x l k [] = refl
+sets-cons x l k (v ∷ vs) = sets-cons x (set l k v) (suc k) vs
+
+sets-nil : (i : ℕ) (vs : List ℕ) → sets [] i vs ≡ []
+sets-nil i [] = refl
+sets-nil i (v ∷ vs) = sets-nil (suc i) vs
+
+-- what stands there already
+pub sets-same : (k : ℕ) (ws : List ℕ) → sets ws 0 (words k ws) ≡ ws
+sets-same zero ws = refl
+sets-same (suc k) [] = sets-nil 0 (words (suc k) [])
+sets-same (suc k) (x ∷ l) = sets-cons x l 0 (words k l) ∙ ap (λ r. x ∷ r) (sets-same k l)
 
 -- some words stored, and others where they end
 pub sets-then : (ws : List ℕ) (a : ℕ) (us vs : List ℕ) → sets (sets ws a us) (a + length us) vs ≡ sets ws a (us ++ vs)
@@ -84,6 +110,20 @@ pub sets-over : (ws : List ℕ) (a : ℕ) (ts us vs xs : List ℕ) (k : ℕ) →
 sets-over ws a ts us vs xs k e q =
     ap (λ l. sets l k vs) (sets-next ws a ts (us ++ xs) k e) ∙ sets-again (sets ws a ts) k us vs xs q
     ∙ sym (sets-next ws a ts (vs ++ xs) k e)
+
+-- and within those that were stored from the front
+pub sets-within : (ws vs us : List ℕ) (a : ℕ) → a + length us ≤ length vs → sets (sets ws 0 vs) a us ≡ sets ws 0 (sets vs a us)
+sets-within ws vs us a h =
+    let m = length us in
+    let old = take m (drop a vs) in
+    let rest = drop (a + m) vs in
+    let left : m ≤ length (drop a vs) = (let l = length-drop a vs in omega arith) in
+    let split = ap (λ l. take a vs ++ (old ++ l)) (sym (drop-drop m a vs))
+    ∙ ap (λ l. take a vs ++ l) (take-append-drop m (drop a vs)) ∙ take-append-drop a vs in
+    let before : 0 + length (take a vs) ≡ a = (let l = length-take-le a vs (omega arith) in omega arith) in
+    ap (λ l. sets (sets ws 0 l) a us) (sym split)
+    ∙ sets-over ws 0 (take a vs) old us rest a before (length-take-le m (drop a vs) left)
+    ∙ ap (sets ws 0) (sym (sets-eq us vs a h ∙ append-assoc (take a vs) us rest))
 
 -- as many words as there are
 pub sets-all : (ws vs : List ℕ) → length vs ≡ length ws → sets ws 0 vs ≡ vs

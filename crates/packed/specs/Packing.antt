@@ -1,9 +1,10 @@
 -- A process record as 208 words: its register, its task, its two collects, the end of the first, its view and its marks, one after
 -- the other.
-use Prim.Native.Nat.{ℕ, zero, suc}
+use Prim.Native.Nat.{ℕ, zero, suc, _+_}
 use mathlib.Core.Bool.{Bool, cond, not}
 use mathlib.Core.List.{List, [], _∷_, _++_, map}
-use lib.ListN.{getD, drop}
+use lib.ListN.{getD, take, drop}
+use lib.Seq.{sets}
 use lib.Dec.{eqb}
 use Rattle.unbounded.specs.declared.Register.{Register}
 use Rattle.unbounded.specs.declared.Process.{Process}
@@ -20,6 +21,10 @@ chained (ws ∷ parts) = ws ++ chained parts
 -- a register: its word, its seq, the eight words of its view, and its at
 abbrev pub packRegister : Register → List ℕ
 packRegister r = r .word ∷ r .seq ∷ (r .view ++ (r .at ∷ []))
+
+-- a register stored from word a on, with the first n words of its view: "those past n are touched only by an opening"
+unfoldable pub storedAt : ℕ → Register → (a : ℕ) → List ℕ → List ℕ
+storedAt n r a ws = sets (sets ws a (r .word ∷ r .seq ∷ take n (r .view))) (a + 10) (r .at ∷ [])
 
 -- a task: its kind, and its word, at and turns, 0 where it has none
 abbrev pub packTask : Task → List ℕ
@@ -46,6 +51,10 @@ packRecord p =
     ∷ p .view
     ∷ map packMark (p .moved)
     ∷ [])
+
+-- p packed over the words of a record; it replaces all of a row of 208, as every lent one is
+abbrev pub packedOver : List ℕ → Process → List ℕ
+packedOver ws p = sets ws 0 (packRecord p)
 
 -- ---- unpacking: what the words from the front on are
 

@@ -6,11 +6,11 @@ use unbounded::Task;
 use unbounded_finds::collects;
 ghost use mathlib.Core.Path.{_≡_};
 ghost use mathlib.Core.List.{[], _∷_, map};
-ghost use Prim.Native.Nat.{_+_, _≤_};
-ghost use lib.ListN.{length, drop};
+ghost use Prim.Native.Nat.{_+_, _*_, _≤_, _<_};
+ghost use lib.ListN.{length, take, drop, set};
 ghost use lib.Seq.{sets};
-ghost use Rattle.packed.specs.Packing.{words, unpackRegister, taskOfKind, unpackTask, unpackCollect, unpackMark, unpackRecord};
-ghost use Rattle.packed.specs.Packing.{packRegister, packTask, packCollect, packMark, packRecord};
+ghost use Rattle.packed.specs.Packing.{wordAt, words, unpackRegister, taskOfKind, unpackTask, unpackCollect, unpackMark};
+ghost use Rattle.packed.specs.Packing.{unpackRecord, packRegister, packTask, packCollect, packMark, packRecord, storedAt};
 
 // Where each part of a record begins, and how many words a register takes.
 const TASK: usize = 11;
@@ -117,6 +117,20 @@ fn collect_at(w: &[u32; 208], a: usize) -> [Register; 8]
     rs
 }
 
+// The end of the first collect.
+pub fn end_in(w: &[u32; 208]) -> u32
+    ensures { λ x. ⌜ x ≡ wordAt (now (w .entry)) 191 ⌝ }
+{
+    w[FIRST_END]
+}
+
+// The view that the record keeps.
+pub fn view_in(w: &[u32; 208]) -> [u32; 8]
+    ensures { λ v. ⌜ v ≡ words 8 (drop 192 (now (w .entry))) ⌝ }
+{
+    view_at(w, VIEW)
+}
+
 fn marks_at(w: &[u32; 208], a: usize) -> [bool; 8]
     requires { ⌜ a + 8 ≤ 208 ⌝ }
     ensures { λ ms. ⌜ ms ≡ map unpackMark (words 8 (drop a (now (w .entry)))) ⌝ }
@@ -133,6 +147,12 @@ fn marks_at(w: &[u32; 208], a: usize) -> [bool; 8]
     ]
 }
 
+pub fn marks_in(w: &[u32; 208]) -> [bool; 8]
+    ensures { λ ms. ⌜ ms ≡ map unpackMark (words 8 (drop 200 (now (w .entry)))) ⌝ }
+{
+    marks_at(w, MARKS)
+}
+
 pub fn record_in(w: &[u32; 208]) -> Process
     ensures { λ p. ⌜ p ≡ unpackRecord (now (w .entry)) ⌝ }
 {
@@ -140,14 +160,15 @@ pub fn record_in(w: &[u32; 208]) -> Process
     let task = task_in(w);
     let first = collect_at(w, FIRST);
     let second = collect_at(w, SECOND);
-    let view = view_at(w, VIEW);
-    let moved = marks_at(w, MARKS);
+    let first_end = end_in(w);
+    let view = view_in(w);
+    let moved = marks_in(w);
     Process {
         register,
         task,
         first,
         second,
-        first_end: w[FIRST_END],
+        first_end,
         view,
         moved,
     }
@@ -155,35 +176,37 @@ pub fn record_in(w: &[u32; 208]) -> Process
 
 // ---- packing
 
-// Eight words.
-fn lay_view(w: &mut [u32; 208], a: usize, v: [u32; 8])
-    requires { ⌜ a + 8 ≤ 208 ⌝ }
-    ensures { λ _. ⌜ now (w .exit) ≡ sets (now (w .entry)) a v ⌝ }
+// The first n of eight words.
+fn lay_words(w: &mut [u32; 208], a: usize, n: usize, v: [u32; 8])
+    requires { ⌜ (a + 8 ≤ 208) × (n ≤ 8) ⌝ }
+    ensures { λ _. ⌜ now (w .exit) ≡ sets (now (w .entry)) a (take n v) ⌝ }
 {
     let mut i = 0;
-    while i < 8 {
+    while i < n {
         w[a + i] = v[i];
         i += 1;
     }
 }
 
-fn lay_register(w: &mut [u32; 208], a: usize, r: Register)
-    requires { ⌜ a + 11 ≤ 208 ⌝ }
-    ensures { λ _. ⌜ now (w .exit) ≡ sets (now (w .entry)) a (packRegister r) ⌝ }
-    ensures { λ _. ⌜ length (packRegister r) ≡ 11 ⌝ }
+// A register, with the first n words of its view: the words past them stay.
+fn lay_register(w: &mut [u32; 208], a: usize, n: usize, r: Register)
+    requires { ⌜ (a + 11 ≤ 208) × (n ≤ 8) ⌝ }
+    ensures { λ _. ⌜ now (w .exit) ≡ storedAt n r a (now (w .entry)) ⌝ }
+    ensures { λ _. ⌜ length (r .view) ≡ 8 ⌝ }
 {
     let v = r.view;
     w[a] = r.word;
     w[a + 1] = r.seq;
-    lay_view(w, a + 2, v);
+    lay_words(w, a + 2, n, v);
     w[a + 10] = r.at;
 }
 
 // The record's own register.
 pub fn lay_own(w: &mut [u32; 208], r: Register)
     ensures { λ _. ⌜ now (w .exit) ≡ sets (now (w .entry)) 0 (packRegister r) ⌝ }
+    ensures { λ _. ⌜ length (r .view) ≡ 8 ⌝ }
 {
-    lay_register(w, 0, r)
+    lay_register(w, 0, 8, r)
 }
 
 // Four words.
@@ -208,6 +231,30 @@ pub fn lay_task(w: &mut [u32; 208], k: Task)
     }
 }
 
+// Register r read into a place of the collects. The places of the first are 0 to 7, those of the second 8 to 15.
+pub fn lay_place(w: &mut [u32; 208], place: usize, n: usize, r: Register)
+    requires { ⌜ (place < 16) × (n ≤ 8) ⌝ }
+    ensures { λ _. ⌜ now (w .exit) ≡ storedAt n r (15 + 11 * place) (now (w .entry)) ⌝ }
+    ensures { λ _. ⌜ length (r .view) ≡ 8 ⌝ }
+{
+    lay_register(w, FIRST + REGISTER * place, n, r)
+}
+
+// The end of the first collect.
+pub fn lay_end(w: &mut [u32; 208], end: u32)
+    ensures { λ _. ⌜ now (w .exit) ≡ set (now (w .entry)) 191 end ⌝ }
+{
+    w[FIRST_END] = end;
+}
+
+// The first n words of the view that the record keeps.
+pub fn lay_kept(w: &mut [u32; 208], n: usize, v: [u32; 8])
+    requires { ⌜ n ≤ 8 ⌝ }
+    ensures { λ _. ⌜ now (w .exit) ≡ sets (now (w .entry)) 192 (take n v) ⌝ }
+{
+    lay_words(w, VIEW, n, v)
+}
+
 fn lay_collect(w: &mut [u32; 208], a: usize, rs: [Register; 8])
     requires { ⌜ a + 88 ≤ 208 ⌝ }
     ensures { λ _. ⌜ now (w .exit) ≡ sets (now (w .entry)) a (packCollect rs) ⌝ }
@@ -215,7 +262,7 @@ fn lay_collect(w: &mut [u32; 208], a: usize, rs: [Register; 8])
 {
     let mut i = 0;
     while i < 8 {
-        lay_register(w, a + REGISTER * i, rs[i]);
+        lay_register(w, a + REGISTER * i, 8, rs[i]);
         i += 1;
     }
 }
@@ -226,13 +273,12 @@ fn mark_word(m: bool) -> u32
     if m { 1 } else { 0 }
 }
 
-fn lay_marks(w: &mut [u32; 208], a: usize, ms: [bool; 8])
-    requires { ⌜ a + 8 ≤ 208 ⌝ }
-    ensures { λ _. ⌜ now (w .exit) ≡ sets (now (w .entry)) a (map packMark ms) ⌝ }
+pub fn lay_marks(w: &mut [u32; 208], ms: [bool; 8])
+    ensures { λ _. ⌜ now (w .exit) ≡ sets (now (w .entry)) 200 (map packMark ms) ⌝ }
 {
     let mut i = 0;
     while i < 8 {
-        w[a + i] = mark_word(ms[i]);
+        w[MARKS + i] = mark_word(ms[i]);
         i += 1;
     }
 }
@@ -246,11 +292,11 @@ pub fn lay_record(w: &mut [u32; 208], p: Process)
     let second = p.second;
     let view = p.view;
     let moved = p.moved;
-    lay_register(w, 0, register);
+    lay_own(w, register);
     lay_task(w, task);
     lay_collect(w, FIRST, first);
     lay_collect(w, SECOND, second);
-    w[FIRST_END] = p.first_end;
-    lay_view(w, VIEW, view);
-    lay_marks(w, MARKS, moved);
+    lay_end(w, p.first_end);
+    lay_kept(w, 8, view);
+    lay_marks(w, moved);
 }

@@ -39,37 +39,19 @@ use Rattle.unbounded.proofs.Whole.{Whole, WholeCollect, whole-begin, whole-turn
 use Rattle.unbounded.proofs.Demand3.{ascending-permutes}
 use Rattle.memory.specs.Tables.{stateOf, refusalIn, acceptedIn}
 use Rattle.memory.proofs.Accepted.{stepped-accepted, admits, admits-inside}
-use Rattle.packed.specs.Packing.{packRecord, unpackRecord, unpackCollect}
-use Rattle.packed_table.specs.Tables.{unpackedAll, packedOver, packedAt, packedBy, isRefused, tableAfter, steppedIn}
+use Rattle.packed.specs.Packing.{packRecord, packedOver, unpackRecord}
+use Rattle.packed_table.specs.Tables.{unpackedAll, packedAt, packedBy, isRefused, tableAfter, steppedIn}
 use Rattle.packed.proofs.Words.{sets-all}
-use Rattle.packed.proofs.Packing.{packed-long, unpack-packed}
+use Rattle.packed.proofs.Packing.{Eights, packed-long, unpack-packed, unpack-whole}
 use Rattle.packed_table.proofs.Rows.{records-long, record-is, zero-words, stored-packed, after-accepted, turn-accepted}
 
 -- every row of a table has its 208 words
 abbrev pub LongRows : List (List ℕ) → Type 0
 LongRows t = (i : ℕ) → i < length t → length (getD t i []) ≡ 208
 
--- every array of a record has its eight places, the marks too
-abbrev pub Eights : Process → Type 0
-Eights p = Whole p × (length (p .moved) ≡ 8)
-
 -- ---- records unpacked from any words
 
-collect-views : (k : ℕ) (ws : List ℕ) (i : ℕ) → i < k → length (getD (unpackCollect k ws) i noRegister .view) ≡ 8
-collect-views zero ws i l = absurd (not-suc-le-zero l)
-collect-views (suc k) ws zero l = refl
-collect-views (suc k) ws (suc i) l = collect-views k (drop 11 ws) i (omega arith)
-
-collect-whole : (ws : List ℕ) → WholeCollect (unpackCollect 8 ws)
-collect-whole ws = record { places = refl; views = collect-views 8 ws }
-
--- a record unpacked from any words has its eight places everywhere
-pub unpack-whole : (ws : List ℕ) → Eights (unpackRecord ws)
-unfolding unpackRecord
-unpack-whole ws =
-    (record { register = refl; view = refl; first = collect-whole (drop 15 ws); second = collect-whole (drop 103 ws) }, refl)
-
--- and so has every record of a table of words
+-- every record of a table of words has its eight places everywhere
 pub records-whole : (t : List (List ℕ)) (i : ℕ) → i < length t → Eights (getD (unpackedAll t) i noProcess)
 records-whole t i l = subst Eights (sym (record-is t i l)) (unpack-whole (getD t i []))
 
@@ -122,7 +104,7 @@ module _ (n : ℕ) (eight : n ≤ 8) (p : Process) (e : Eights p) where
 -- the row is its words, and is unpacked as the record was
 pub over-unpacked : (ws : List ℕ) (q : Process) → length ws ≡ 208 → Eights q → unpackRecord (packedOver ws q) ≡ q
 over-unpacked ws q long e =
-    ap unpackRecord (sets-all ws (packRecord q) (packed-long q (e .0) (e .1) ∙ sym long)) ∙ unpack-packed q (e .0) (e .1)
+    ap unpackRecord (sets-all ws (packRecord q) (packed-long q e ∙ sym long)) ∙ unpack-packed q e
 
 module _ (t : List (List ℕ)) (long : LongRows t) (i : ℕ) (inside : i < length t) (q : Process) where
   packed-unpacked : Eights q → unpackedAll (packedAt t i q) ≡ set (unpackedAll t) i q

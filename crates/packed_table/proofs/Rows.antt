@@ -1,4 +1,4 @@
--- A table of packed records: its records, a part laid over a packed record, and what a request leaves of the table.
+-- A table of packed records: its records, and what a request leaves of the table.
 use Prim.Native.Nat.{ℕ, _+_, _-_, _<_, _≤_}
 use native.Mathlib.Nat.{zero-add}
 use native.Mathlib.Omega.{arith}
@@ -36,7 +36,7 @@ use Rattle.unbounded_tasks.specs.declared.Find.{Find}
 use Rattle.unbounded_tasks.specs.Accesses.{Sound, isReady}
 use Rattle.unbounded_finds.specs.Finds.{nothingFound}
 use Rattle.unbounded_tasks.specs.Tasks.{answerBy}
-use Rattle.unbounded_tasks.specs.Surveys.{surveyOf, seenBy, surveyedBy}
+use Rattle.unbounded_tasks.specs.Surveys.{surveyOf, surveyedBy}
 use Rattle.unbounded_turns.specs.Steps.{withTask, begunBy}
 use Rattle.unbounded_turns.proofs.Parts.{withRegister}
 use Rattle.memory.specs.Tables.{stateOf, refusalIn, acceptedIn}
@@ -45,7 +45,7 @@ use Rattle.memory.proofs.Accepted.{write-leaves, read-leaves}
 use Rattle.packed.specs.Packing.{packRecord, unpackRecord, packRegister, packTask, unpackRegister, unpackTask}
 use Rattle.packed.proofs.Words.{sets-over}
 use Rattle.packed.proofs.Packing.{register-long, task-long}
-use Rattle.packed_table.specs.Tables.{unpackedAll, recordAt, packedOver, packedAt, packedBy, changed, isRefused, tableAfter}
+use Rattle.packed_table.specs.Tables.{unpackedAll, recordAt, packedAt, packedBy, changed, isRefused, tableAfter}
 
 -- ---- the records of a table
 
@@ -64,12 +64,6 @@ pub register-is : (t : List (List ℕ)) (i : ℕ) → i < length t →
     unpackRegister (getD t i []) ≡ getD (unpackedAll t) i noProcess .register
 unfolding unpackRecord
 register-is t i l = ap (λ p. p .register) (sym (record-is t i l))
-
--- a record is looked at by three of its parts
-pub parts-seen : (s : Survey) (ws : List ℕ) →
-    seenBy s (unpackTask (drop 11 ws)) (unpackRegister ws .seq) (unpackRegister ws .at) ≡ surveyedBy s (unpackRecord ws)
-unfolding seenBy surveyedBy unsound unpackRecord
-parts-seen s ws = refl
 
 -- one record more is looked at
 pub looked-more : (s : Survey) (t : List (List ℕ)) (i : ℕ) → i < length t →
@@ -113,28 +107,6 @@ cleared-all w t i e =
 pub zero-words : packRecord zeroProcess ≡ replicate 208 0
 unfolding packRecord
 zero-words = refl
-
--- ---- a part laid over a packed record
-
-pub task-laid : (ws : List ℕ) (q : Process) (k : Task) → length (q .register .view) ≡ 8 →
-    sets (packedOver ws q) 11 (packTask k) ≡ packedOver ws (withTask k q)
-unfolding packRecord
-task-laid ws q k e =
-    sets-over ws 0 (packRegister (q .register)) (packTask (q .task)) (packTask k) _ 11
-    (zero-add (length (packRegister (q .register))) ∙ register-long (q .register) e) (task-long (q .task) ∙ sym (task-long k))
-
-pub own-laid : (ws : List ℕ) (q : Process) (r : Register) → length (q .register .view) ≡ 8 → length (r .view) ≡ 8 →
-    sets (packedOver ws q) 0 (packRegister r) ≡ packedOver ws (withRegister r q)
-unfolding packRecord
-own-laid ws q r e d =
-    sets-over ws 0 [] (packRegister (q .register)) (packRegister r) _ 0 refl
-    (register-long (q .register) e ∙ sym (register-long r d))
-
--- a turn that ends its task: nothing collected, then the register, then no task
-pub ended-parts : (a : Access) (w : Register) (p : Process) →
-    withTask Tasks.Idle (withRegister w (begunBy a (p .task) p)) ≡ begunBy a Tasks.Idle (withRegister w p)
-unfolding begunBy begin
-ended-parts a w p = refl
 
 -- ---- what a request leaves
 
@@ -219,11 +191,5 @@ module _ (day : Day) (t : List (List ℕ)) (i : ℕ) (k : Task) (h : TurnAt day 
   pub turn-task : recordAt t i .task ≡ k
   turn-task = sym (ap (λ p. p .task) (record-is t i turn-inside)) ∙ h .task
 
-  pub turning-at : (a : Access) (f : Find) → Sound a → f .passed ≤ 8 → Turning a f (recordAt t i)
-  turning-at a f sound passed =
-      record {
-        sound = sound;
-        passed = passed;
-        seq = subst (λ p. p .register .seq < 4294967295) (record-is t i turn-inside) (h .seq);
-        turns = subst (λ z. turnsOf z < 4294967295) (sym turn-task) (h .turns);
-      }
+  pub turn-seq : unpackRegister (getD t i []) .seq < 4294967295
+  turn-seq = subst (λ r. r .seq < 4294967295) (sym (register-is t i turn-inside)) (h .seq)

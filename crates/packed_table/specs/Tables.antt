@@ -3,7 +3,6 @@ use Prim.Native.Nat.{ℕ, _-_}
 use mathlib.Core.Bool.{Bool, true, false, cond}
 use mathlib.Core.List.{List, [], map}
 use lib.ListN.{getD, set}
-use lib.Seq.{sets}
 use Rattle.snapshot.specs.Demand.{Result}
 use Rattle.snapshot.specs.Days.{State}
 use Rattle.snapshot.specs.declared.Day.{Day}
@@ -16,7 +15,7 @@ use Rattle.unbounded.specs.Processes.{noProcess}
 use Rattle.unbounded.specs.Days.{stepped}
 use Rattle.requests.specs.Requests.{itemOf}
 use Rattle.memory.specs.Tables.{stateOf}
-use Rattle.packed.specs.Packing.{packRecord, unpackRecord}
+use Rattle.packed.specs.Packing.{packRecord, packedOver, unpackRecord}
 
 -- the records that the words are
 abbrev pub unpackedAll : List (List ℕ) → List Process
@@ -24,10 +23,6 @@ unpackedAll t = map unpackRecord t
 
 abbrev pub recordAt : List (List ℕ) → ℕ → Process
 recordAt t i = unpackRecord (getD t i [])
-
--- p packed over the words of a record; it replaces all of a row of 208, as every lent one is (proofs/Chained, `over-unpacked`)
-abbrev pub packedOver : List ℕ → Process → List ℕ
-packedOver ws p = sets ws 0 (packRecord p)
 
 -- the words once record i is p
 abbrev pub packedAt : List (List ℕ) → ℕ → Process → List (List ℕ)

@@ -1,5 +1,5 @@
 // A request on a table of packed records; crate `memory` does the same on a table of records. Of each record only what a request
-// needs is unpacked: what refusal 11 looks at of all, one whole, and the register of one. Only the record that changed is packed.
+// needs is unpacked: what refusal 11 looks at of all, and the register of one. Only the record that changes is stored to.
 use admission::Check;
 use admission::Survey;
 use admission::checks;
@@ -7,24 +7,16 @@ use admission::outcomes;
 use snapshot::Day;
 use snapshot::Outcome;
 use snapshot::Request;
-use unbounded::Process;
-use unbounded::Register;
 use unbounded::Task;
-use unbounded_finds::collects;
 use unbounded_finds::finds;
-use unbounded_tasks::Access;
-use unbounded_tasks::Find;
 use unbounded_tasks::accesses;
 use unbounded_tasks::surveys;
 use unbounded_tasks::tasks;
-use unbounded_turns::records;
 ghost use mathlib.Core.Path.{_≡_};
 ghost use mathlib.Core.Bool.{not};
 ghost use mathlib.Core.List.{[], map, foldl};
 ghost use mathlib.Core.Option.{none};
-ghost use Prim.Native.Nat.{_<_};
 ghost use lib.Dec.{T};
-ghost use lib.ListN.{length};
 ghost use Rattle.snapshot.specs.Days.{openFor};
 ghost use Rattle.snapshot.specs.declared.Request.the-variants.{Open};
 ghost use Rattle.requests.specs.Requests.{itemOf, pageAfter, isOpening, isCall};
@@ -33,13 +25,13 @@ ghost use Rattle.admission.specs.Outcomes.{acceptedOutcome};
 ghost use Rattle.unbounded.specs.Registers.{zeroRegister};
 ghost use Rattle.unbounded.specs.Processes.{zeroProcess};
 ghost use Rattle.unbounded.specs.Days.{stepped};
-ghost use Rattle.unbounded_tasks.specs.Accesses.{Sound, RoomFor, accessOf};
+ghost use Rattle.unbounded_tasks.specs.Accesses.{isReady, RoomFor, accessOf};
 ghost use Rattle.unbounded_tasks.specs.Tasks.{answerBy};
 ghost use Rattle.unbounded_tasks.specs.Surveys.{surveyedBy};
 ghost use Rattle.unbounded_finds.specs.Finds.{nothingFound, pageBy};
-ghost use Rattle.unbounded_turns.specs.Steps.{begunBy, stateBy};
+ghost use Rattle.unbounded_turns.specs.Steps.{stateBy};
 ghost use Rattle.memory.specs.Tables.{stateOf, outcomeOf, refusalIn, acceptedIn, RefusedBy};
-ghost use Rattle.memory.specs.Turning.{Turning, TurnAt, readAt, foundAt};
+ghost use Rattle.memory.specs.Turning.{TurnAt, readAt, foundAt};
 ghost use Rattle.packed.specs.Packing.{packRecord, unpackRecord};
 ghost use Rattle.packed_table.specs.Tables.{unpackedAll, recordAt, packedAt, packedBy, tableAfter, steppedIn};
 
@@ -47,7 +39,8 @@ ghost use Rattle.packed_table.specs.Tables.{unpackedAll, recordAt, packe
 fn looked_at(s: Survey, w: &[u32; 208]) -> Survey
     ensures { λ x. ⌜ x ≡ surveyedBy s (unpackRecord (now (w .entry))) ⌝ }
 {
-    surveys::seen(s, packed::task_in(w), packed::seq_in(w), packed::at_in(w))
+    let found = surveys::task_seen(s, packed::task_in(w));
+    surveys::register_seen(found, packed::seq_in(w), packed::at_in(w))
 }
 
 // What a look at every record finds, from what was found before.
@@ -89,36 +82,6 @@ fn clear_all(t: &mut [[u32; 208]])
     }
 }
 
-// Record i with task k and nothing collected.
-fn begin_at(t: &mut [[u32; 208]], i: usize, a: Access, k: Task)
-    requires { ⌜ (i < length (now t)) × Sound a ⌝ }
-    ensures { λ _. ⌜ now (t .exit) ≡ packedAt (now (t .entry)) i (begunBy a k (recordAt (now (t .entry)) i)) ⌝ }
-{
-    let p = packed::record_in(&t[i]);
-    let q = records::begun(a, p);
-    packed::lay_record(&mut t[i], q);
-    packed::lay_task(&mut t[i], k);
-}
-
-// The turn of record i, which is p: its access read r and found f.
-fn turn_at(t: &mut [[u32; 208]], i: usize, a: Access, r: Register, f: Find, p: Process)
-    requires { ⌜ (i < length (now t)) × Turning a f p ⌝ }
-    ensures { λ _. ⌜ now (t .exit) ≡ packedAt (now (t .entry)) i (stateBy a r p f (p .task)) ⌝ }
-{
-    let k = p.task;
-    if tasks::ends(k, f) {
-        let own = records::written(a, p);
-        let q = records::begun(a, p);
-        packed::lay_record(&mut t[i], q);
-        packed::lay_own(&mut t[i], own);
-        packed::lay_task(&mut t[i], tasks::idle());
-        return;
-    }
-    let q = records::read(a, r, k, f, p);
-    packed::lay_record(&mut t[i], q);
-    packed::lay_task(&mut t[i], tasks::task_after(k, f));
-}
-
 // An accepted call.
 fn call(day: Day, t: &mut [[u32; 208]], x: Request) -> Outcome
     requires { ⌜ T (isCall x) × (refusalIn (stateOf day (unpackedAll (now t))) (itemOf [] x) ≡ none) ⌝ }
@@ -127,27 +90,25 @@ fn call(day: Day, t: &mut [[u32; 208]], x: Request) -> Outcome
         packedBy (now (t .entry)) x (acceptedIn (stateOf day (unpackedAll (now (t .entry)))) (itemOf [] x) .state .table) ⌝ }
 {
     let a = accesses::call_access(day);
-    begin_at(t, requests::index_in(x), a, tasks::task_for(x));
+    let i = requests::index_in(x);
+    packed_turns::begin(&mut t[i], a, tasks::task_for(x));
     outcomes::called(day)
 }
 
 // The writing turn of record i, an update with task k that is ready: it reads no register.
 fn write_turn(day: Day, t: &mut [[u32; 208]], i: usize, k: Task) -> Outcome
-    requires { ⌜ TurnAt day (unpackedAll (now t)) i k ⌝ }
+    requires { ⌜ TurnAt day (unpackedAll (now t)) i k × T (isReady k) ⌝ }
     ensures { λ x. ⌜ x ≡ acceptedOutcome day (answerBy (nothingFound 0) k) ⌝ }
     ensures { λ x. ⌜ now (t .exit) ≡ packedAt (now (t .entry)) i
         (stateBy (accessOf day k) zeroRegister (recordAt (now (t .entry)) i) (nothingFound 0) k) ⌝ }
 {
-    let a = accesses::access_of(day, k);
-    let f = finds::nothing_found();
-    let p = packed::record_in(&t[i]);
-    turn_at(t, i, a, collects::no_register(), f, p);
-    outcomes::accepted(day, tasks::answer(k, f))
+    packed_turns::write(&mut t[i], accesses::access_of(day, k), k);
+    outcomes::accepted(day, tasks::answer(k, finds::nothing_found()))
 }
 
 // A reading turn of record i, with task k: one register is read.
 fn read_turn(day: Day, t: &mut [[u32; 208]], i: usize, k: Task, page: &mut [u32]) -> Outcome
-    requires { ⌜ TurnAt day (unpackedAll (now t)) i k × RoomFor (accessOf day k) (now page) ⌝ }
+    requires { ⌜ TurnAt day (unpackedAll (now t)) i k × T (not (isReady k)) × RoomFor (accessOf day k) (now page) ⌝ }
     ensures { λ x. ⌜ x ≡ acceptedOutcome day (answerBy (foundAt day (unpackedAll (now (t .entry))) i k) k) ⌝ }
     ensures { λ x. ⌜ now (t .exit) ≡ packedAt (now (t .entry)) i (stateBy (accessOf day k)
         (readAt day (unpackedAll (now (t .entry))) k) (recordAt (now (t .entry)) i)
@@ -158,10 +119,8 @@ fn read_turn(day: Day, t: &mut [[u32; 208]], i: usize, k: Task, page: &mut [u32]
     let a = accesses::access_of(day, k);
     let j = accesses::place_of(a);
     let r = packed::own_in(&t[j]);
-    let p = packed::record_in(&t[i]);
-    let f = finds::find_page(a, r, p);
+    let f = packed_turns::read(&mut t[i], a, r, k);
     finds::lay_page(a, k, f, page);
-    turn_at(t, i, a, r, f, p);
     outcomes::accepted(day, tasks::answer(k, f))
 }
 

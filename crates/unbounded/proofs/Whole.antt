@@ -49,7 +49,7 @@ module _ (n : ℕ) (eight : n ≤ 8) where
   length-over-eight : {A : Type 0} (a b : List A) → n ≤ length a → length b ≡ 8 → length (over n a b) ≡ 8
   length-over-eight a b l m = length-over n a b (length-take-le n a l) (omega arith) ∙ m
 
-  laid-eight : (r old : Register) → n ≤ length (r .view) → length (old .view) ≡ 8 → length (laid n r old .view) ≡ 8
+  pub laid-eight : (r old : Register) → n ≤ length (r .view) → length (old .view) ≡ 8 → length (laid n r old .view) ≡ 8
   unfolding laid
   laid-eight r old l m = length-over-eight (r .view) (old .view) l m
 
@@ -72,7 +72,7 @@ module _ (n : ℕ) (eight : n ≤ 8) where
         }
 
     module _ (r : Register) (l : n ≤ length (r .view)) where
-      whole-read : (i : ℕ) → WholeCollect (readInto n r i rs)
+      pub whole-read : (i : ℕ) → WholeCollect (readInto n r i rs)
       unfolding readInto
       whole-read i =
           let old = getD rs i noRegister in

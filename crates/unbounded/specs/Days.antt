@@ -36,11 +36,8 @@ overdue most (Update w t) = leb most t
 overdue most (Ready w at t) = ltb most t
 
 -- "the desk's own row has a seq or at above the event number", or its task is overdue (refusal 11)
-abbrev pub unsoundParts : (most event : ℕ) → Task → (seq at : ℕ) → Bool
-unsoundParts most e k seq at = ltb e seq || (ltb e at || overdue most k)
-
-unfoldable pub unsound : ℕ → ℕ → Process → Bool
-unsound most e p = unsoundParts most e (p .task) (p .register .seq) (p .register .at)
+unfoldable pub unsound : (most event : ℕ) → Process → Bool
+unsound most e p = ltb e (p .register .seq) || (ltb e (p .register .at) || overdue most (p .task))
 
 -- ---- the machine
 

@@ -1,7 +1,7 @@
 -- A look at every record of a table finds whether some record cannot have arisen (refusal 11).
 use Prim.Native.Nat.{ℕ, _≤_, _<_}
 use mathlib.Core.Path.{_≡_, refl, sym, ap, _∙_}
-use mathlib.Core.Bool.{Bool, true, false, _||_, or-false, or-assoc}
+use mathlib.Core.Bool.{Bool, true, false, _||_, or-false, or-assoc, or-comm}
 use mathlib.Core.List.{List, [], _∷_, foldl}
 use native.Mathlib.Omega.{arith}
 use lib.Dec.{ltb}
@@ -17,7 +17,29 @@ use Rattle.unbounded.specs.declared.Task.{Task}
 use Rattle.unbounded.specs.declared.Task.the-variants.{Idle, Scan, Update, Ready}
 use Rattle.unbounded.specs.Processes.{turnsOf}
 use Rattle.unbounded.specs.Days.{mostReads, readsUpTo8, overdue, unsound}
-use Rattle.unbounded_tasks.specs.Surveys.{surveyOf, surveyedBy}
+use Rattle.unbounded_tasks.specs.Surveys.{surveyOf, registerSeen, taskSeen, surveyedBy}
+
+-- a record is looked at by its register and its task
+pub parts-seen : (s : Survey) (p : Process) →
+    taskSeen (registerSeen s (p .register .seq) (p .register .at)) (p .task) ≡ surveyedBy s p
+unfolding taskSeen registerSeen surveyedBy unsound
+parts-seen s p =
+    let a = ltb (s .event) (p .register .seq) in
+    let b = ltb (s .event) (p .register .at) in
+    let c = overdue (s .most) (p .task) in
+    ap (λ bad. record { most = s .most; event = s .event; bad = bad })
+    (or-assoc (s .bad) (a || b) c ∙ ap (λ x. s .bad || x) (or-assoc a b c))
+
+-- in either order
+pub task-first : (s : Survey) (p : Process) →
+    registerSeen (taskSeen s (p .task)) (p .register .seq) (p .register .at) ≡ surveyedBy s p
+unfolding taskSeen registerSeen
+task-first s p =
+    let r = ltb (s .event) (p .register .seq) || ltb (s .event) (p .register .at) in
+    let c = overdue (s .most) (p .task) in
+    ap (λ bad. record { most = s .most; event = s .event; bad = bad })
+    (or-assoc (s .bad) c r ∙ ap (λ x. s .bad || x) (or-comm c r) ∙ sym (or-assoc (s .bad) r c))
+    ∙ parts-seen s p
 
 -- the survey s once some of the records looked at were bad
 abbrev orBad : Survey → Bool → Survey

@@ -6,8 +6,9 @@ use unbounded::Task;
 use unbounded::most_reads;
 ghost use mathlib.Core.Path.{_≡_};
 ghost use mathlib.Core.Bool.{_||_};
-ghost use Rattle.unbounded.specs.Days.{overdue, unsoundParts};
-ghost use Rattle.unbounded_tasks.specs.Surveys.{surveyOf, seenBy, surveyedBy};
+ghost use lib.Dec.{ltb};
+ghost use Rattle.unbounded.specs.Days.{overdue};
+ghost use Rattle.unbounded_tasks.specs.Surveys.{surveyOf, registerSeen, taskSeen, surveyedBy};
 
 // What is found before any record is looked at.
 pub fn survey_of(day: Day) -> Survey
@@ -20,28 +21,28 @@ pub fn survey_of(day: Day) -> Survey
     }
 }
 
-// What is found once p is looked at too.
+// What is found once p is looked at too: its register, then its task.
 pub fn surveyed(s: Survey, p: Process) -> Survey
     ensures { λ t. ⌜ t ≡ surveyedBy s p ⌝ }
 {
     let k = p.task;
-    seen(s, k, p.register.seq, p.register.at)
+    task_seen(register_seen(s, p.register.seq, p.register.at), k)
 }
 
-// The same, by the parts of a record that are looked at.
-pub fn seen(s: Survey, k: Task, seq: u32, at: u32) -> Survey
-    ensures { λ t. ⌜ t ≡ seenBy s k seq at ⌝ }
+// Once a register with this seq and at is looked at.
+pub fn register_seen(s: Survey, seq: u32, at: u32) -> Survey
+    ensures { λ t. ⌜ t ≡ registerSeen s seq at ⌝ }
 {
     Survey {
         most: s.most,
         event: s.event,
-        bad: bad_after(s, k, seq, at),
+        bad: bad_register(s, seq, at),
     }
 }
 
-// Whether a record before this one was bad, or one with these parts cannot have arisen.
-fn bad_after(s: Survey, k: Task, seq: u32, at: u32) -> bool
-    ensures { λ b. ⌜ b ≡ (s .bad || unsoundParts (s .most) (s .event) k seq at) ⌝ }
+// Whether a record before this one was bad, or its register cannot have arisen.
+fn bad_register(s: Survey, seq: u32, at: u32) -> bool
+    ensures { λ b. ⌜ b ≡ (s .bad || (ltb (s .event) seq || ltb (s .event) at)) ⌝ }
 {
     if s.bad {
         return true;
@@ -49,10 +50,28 @@ fn bad_after(s: Survey, k: Task, seq: u32, at: u32) -> bool
     if s.event < seq {
         return true;
     }
-    if s.event < at {
+    s.event < at
+}
+
+// Once a task is looked at.
+pub fn task_seen(s: Survey, k: Task) -> Survey
+    ensures { λ t. ⌜ t ≡ taskSeen s k ⌝ }
+{
+    Survey {
+        most: s.most,
+        event: s.event,
+        bad: bad_task(s, k),
+    }
+}
+
+// Whether something before was bad, or a task is overdue.
+fn bad_task(s: Survey, k: Task) -> bool
+    ensures { λ b. ⌜ b ≡ (s .bad || overdue (s .most) k) ⌝ }
+{
+    if is_overdue(s.most, k) {
         return true;
     }
-    is_overdue(s.most, k)
+    s.bad
 }
 
 // Whether a task has had more turns than it can have.

@@ -22,7 +22,7 @@ use Rattle.unbounded.specs.declared.Task.the-variants.{Idle, Scan, Update, Read
 use Rattle.unbounded.specs.Registers.{ascending, pageOf, differs, collectedAt}
 use Rattle.unbounded.specs.Processes.{noProcess, isIdle, begin}
 use Rattle.unbounded.specs.Turns.{reads, position, firstAfter, secondAfter, endAfter, decision, marksAfter, found, afterRead}
-use Rattle.unbounded.specs.Turns.{foundBy, scanTurn, updateTurn, turnedBy, turned}
+use Rattle.unbounded.specs.Turns.{foundBy, scanTurn, updateTurn, written, turnedBy, turned}
 use Rattle.unbounded.specs.Days.{figure3}
 use Rattle.unbounded.proofs.Places.{page-of-long}
 use Rattle.unbounded_tasks.specs.declared.Access.{Access}
@@ -127,7 +127,7 @@ module _ (day : Day) (page : List ℕ) (p : Process) where
 
   writing-task : (r r′ : Register) (f : Find) (k : Task) → isReady k ≡ true →
       turnedBy ascending (day .count) now r page p k ≡ steps (accessOf day k) r′ page p f k
-  unfolding accessOf stateBy
+  unfolding accessOf stateBy written
   writing-task r r′ f Idle q = absurd (false≢true q)
   writing-task r r′ f (Scan t) q = absurd (false≢true q)
   writing-task r r′ f (Update w t) q = absurd (false≢true q)

@@ -1,15 +1,17 @@
 -- What the functions on one process record compute, step by step. That together they are a turn of `Turns` is proved
 -- (proofs/Steps).
+use Prim.Native.Nat.{ℕ, _+_}
 use mathlib.Core.Bool.{cond}
+use mathlib.Core.List.{List}
 use Rattle.snapshot.specs.Lists.{over}
 use Rattle.snapshot.specs.Marks.{markFrom}
 use Rattle.unbounded.specs.declared.Register.{Register}
 use Rattle.unbounded.specs.declared.Process.{Process}
 use Rattle.unbounded.specs.declared.Task.{Task}
 use Rattle.unbounded.specs.declared.Task.the-variants.{Idle, Scan, Update, Ready}
-use Rattle.unbounded.specs.Registers.{ascending, differs}
+use Rattle.unbounded.specs.Registers.{ascending, differs, laid}
 use Rattle.unbounded.specs.Processes.{emptied, begin}
-use Rattle.unbounded.specs.Turns.{firstAfter, secondAfter, endAfter, written}
+use Rattle.unbounded.specs.Turns.{firstAfter, secondAfter, endAfter}
 use Rattle.unbounded_tasks.specs.declared.Access.{Access}
 use Rattle.unbounded_tasks.specs.declared.Find.{Find}
 use Rattle.unbounded_tasks.specs.Tasks.{keepsBy, endsBy, taskBy}
@@ -46,12 +48,15 @@ readBy a r p f k =
       moved = markFrom (differs ascending first second) (f .passed) 0 (p .moved);
     }
 
--- the register after the turn: an update that is ready writes it
+-- a register after the turn of its process: an update that is ready writes it, with the view that it keeps
+abbrev pub writtenOver : Access → Register → (view : List ℕ) → Task → Register
+writtenOver a old v Idle = old
+writtenOver a old v (Scan t) = old
+writtenOver a old v (Update w t) = old
+writtenOver a old v (Ready w at t) = laid (a .n) (record { word = w; seq = old .seq + 1; view = v; at = at }) old
+
 abbrev pub writtenBy : Access → Process → Task → Register
-writtenBy a p Idle = p .register
-writtenBy a p (Scan t) = p .register
-writtenBy a p (Update w t) = p .register
-writtenBy a p (Ready w at t) = written (a .n) w at p
+writtenBy a p k = writtenOver a (p .register) (p .view) k
 
 -- the record p of task k after the turn
 unfoldable pub stateBy : Access → Register → Process → Find → Task → Process

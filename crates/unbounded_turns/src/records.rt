@@ -13,7 +13,7 @@ ghost use Prim.Native.Nat.{_≤_, _<_};
 ghost use Rattle.unbounded.specs.Processes.{isIdle, zeroProcess};
 ghost use Rattle.unbounded.specs.Turns.{endAfter};
 ghost use Rattle.unbounded_tasks.specs.Accesses.{Sound};
-ghost use Rattle.unbounded_turns.specs.Steps.{begunBy, readBy, writtenBy};
+ghost use Rattle.unbounded_turns.specs.Steps.{begunBy, readBy, writtenBy, writtenOver};
 
 // A record in which every number is 0, and which is idle.
 pub fn zero() -> Process
@@ -79,7 +79,7 @@ pub fn begun(a: Access, p: Process) -> Process
 }
 
 // The number of the turn that ended the first collect.
-fn end_of(a: Access, end: u32) -> u32
+pub fn end_of(a: Access, end: u32) -> u32
     requires { ⌜ Sound a ⌝ }
     ensures { λ r. ⌜ r ≡ endAfter (a .n) (a .pos) (a .now) end ⌝ }
 {
@@ -124,10 +124,18 @@ pub fn written(a: Access, p: Process) -> Register
     requires { ⌜ (a .n ≤ 8) × (p .register .seq < 4294967295) ⌝ }
     ensures { λ x. ⌜ x ≡ writtenBy a p (p .task) ⌝ }
 {
-    let n = a.n;
     let k = p.task;
     let old = p.register;
     let view = p.view;
+    written_over(a, k, old, view)
+}
+
+// The same by the parts of a record: its task, its register and the view that it keeps.
+pub fn written_over(a: Access, k: Task, old: Register, view: [u32; 8]) -> Register
+    requires { ⌜ (a .n ≤ 8) × (old .seq < 4294967295) ⌝ }
+    ensures { λ x. ⌜ x ≡ writtenOver a old view k ⌝ }
+{
+    let n = a.n;
     match k {
         Task::Idle => old,
         Task::Scan { turns: _ } => old,

@@ -8,7 +8,7 @@ use lib.Seq.{sets, take-all}
 use Rattle.unbounded.specs.Registers.{noRegister}
 use Rattle.packed.specs.Packing.{packRegister, packCollect}
 use Rattle.packed.proofs.Words.{sets-then}
-use Rattle.packed.proofs.Packing.{collect-more}
+use Rattle.packed.proofs.Packing.{collect-more, register-long, stored-whole}
 use borrow.Author.Needs.{needs}
 use Rattle.packed.proofs.lay_collect.Statement.{statement}
 use Rattle.packed.proofs.lay_collect.Tie as tie
@@ -54,10 +54,11 @@ loop-again c =
     let more = collect-more (x .t3) (l .i) (omega arith) ∙ ap (λ k. packCollect (take k (x .t3))) (sym (add-one (l .i))) in (
       omega arith,
       c .lay-register .ensures .0
+          ∙ stored-whole (l .w) (getD (x .t3) (l .i) noRegister) (x .a + 11 * l .i) (c .lay-register .ensures .1)
           ∙ (λ i. sets (l .inv .1 i) (here i) next)
           ∙ sets-then (x .w .now) (x .a) done next
           ∙ ap (sets (x .w .now) (x .a)) more,
-      sym (ap length more) ∙ length-append done next ∙ omega (arith, l .inv .2, c .lay-register .ensures .1),
+      sym (ap length more) ∙ length-append done next ∙ omega (arith, l .inv .2, register-long (getD (x .t3) (l .i) noRegister) (c .lay-register .ensures .1)),
     )
 
 returns : tie.Need-returns Inv-loop μ-loop

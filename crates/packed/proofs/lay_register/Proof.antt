@@ -2,11 +2,10 @@
 use Prim.Native.Nat.{suc, _+_}
 use native.Mathlib.Omega.{arith}
 use mathlib.Core.Path.{_≡_, sym, ap, _∙_}
-use mathlib.Core.List.{[], _∷_}
-use lib.ListN.{length, set, length-append, length-map}
+use lib.ListN.{set, take, length-map}
 use lib.Seq.{sets}
 use denote.Struct.Field.{u32-field}
-use Rattle.packed.proofs.Words.{sets-then}
+use Rattle.packed.specs.Packing.{storedAt}
 use borrow.Author.Needs.{needs}
 use Rattle.packed.proofs.lay_register.Statement.{statement}
 use Rattle.packed.proofs.lay_register.Tie as tie
@@ -26,11 +25,11 @@ mul-w-2 c = search needs
 element-write-w-2 : tie.Need-element-write-w-2
 element-write-w-2 c = search needs
 
-add-lay-view : tie.Need-add-lay-view
-add-lay-view c = search needs
+add-lay-words : tie.Need-add-lay-words
+add-lay-words c = search needs
 
-lay-view-requires : tie.Need-lay-view-requires
-lay-view-requires c κs = search needs
+lay-words-requires : tie.Need-lay-words-requires
+lay-words-requires c κs = search needs
 
 add-w-2 : tie.Need-add-w-2
 add-w-2 c = search needs
@@ -42,18 +41,17 @@ element-write-w-3 : tie.Need-element-write-w-3
 element-write-w-3 c = search needs
 
 returns : tie.Need-returns
+unfolding storedAt
 returns c =
     let start = c .before .before .before in
     let x = start .args in
-    let long = sym (length-map (x .r .view) (u32-field .into)) ∙ start .good .1 .1 .0 .1 .1 .1 .1 .0 .1 .0 .1 in
+    let long = sym (length-map (x .r .view) (u32-field .into)) ∙ start .good .1 .1 .1 .0 .1 .1 .1 .1 .0 .1 .0 .1 in
     let one : x .a + 1 ≡ suc (x .a) = omega arith in
     let two : x .a + 2 ≡ suc (suc (x .a)) = omega arith in
-    let ten : x .a + 10 ≡ suc (suc (x .a)) + length (x .r .view) = omega (arith, long) in
     let w = set (x .w .now) (x .a) (x .r .word) in (
-      ap (λ l. set l (x .a + 10) (x .r .at)) (c .lay-view .ensures)
-          ∙ (λ i. set (sets (set w (one i) (x .r .seq)) (two i) (x .r .view)) (ten i) (x .r .at))
-          ∙ sets-then (set w (suc (x .a)) (x .r .seq)) (suc (suc (x .a))) (x .r .view) (x .r .at ∷ []),
-      simp (length-append, long),
+      ap (λ l. set l (x .a + 10) (x .r .at)) (c .lay-words .ensures)
+          ∙ (λ i. set (sets (set w (one i) (x .r .seq)) (two i) (take (x .n) (x .r .view))) (x .a + 10) (x .r .at)),
+      long,
     )
 
 pub lay-register-spec : {M : Type 1} → statement M
@@ -65,8 +63,8 @@ lay-register-spec =
     add-w
     mul-w-2
     element-write-w-2
-    add-lay-view
-    lay-view-requires
+    add-lay-words
+    lay-words-requires
     add-w-2
     mul-w-3
     element-write-w-3

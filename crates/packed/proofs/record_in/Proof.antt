@@ -1,5 +1,5 @@
 -- `packed::record_in` meets its contract.
-use Rattle.packed.specs.Packing.{wordAt, unpackRecord}
+use Rattle.packed.specs.Packing.{unpackRecord}
 use borrow.Author.Needs.{needs}
 use Rattle.packed.proofs.record_in.Statement.{statement}
 use Rattle.packed.proofs.record_in.Tie as tie
@@ -16,14 +16,14 @@ collect-at-requires c κs = search needs
 collect-at-requires-2 : tie.Need-collect-at-requires-2
 collect-at-requires-2 c κs = search needs
 
-view-at-requires : tie.Need-view-at-requires
-view-at-requires c κs = search needs
+end-in-requires : tie.Need-end-in-requires
+end-in-requires c κs = search needs
 
-marks-at-requires : tie.Need-marks-at-requires
-marks-at-requires c κs = search needs
+view-in-requires : tie.Need-view-in-requires
+view-in-requires c κs = search needs
 
-element-copy-out-t10 : tie.Need-element-copy-out-t10
-element-copy-out-t10 c = search needs
+marks-in-requires : tie.Need-marks-in-requires
+marks-in-requires c κs = search needs
 
 returns : tie.Need-returns
 unfolding unpackRecord
@@ -33,9 +33,9 @@ returns c =
       task = c .before .before .before .before .before .task-in .ensures i;
       first = c .before .before .before .before .collect-at .ensures i;
       second = c .before .before .before .collect-at2 .ensures i;
-      «first_end» = wordAt (c .before .before .before .before .before .before .before .args .w .now) 191;
-      view = c .before .before .view-at .ensures i;
-      moved = c .before .marks-at .ensures i;
+      «first_end» = c .before .before .end-in .ensures i;
+      view = c .before .view-in .ensures i;
+      moved = c .marks-in .ensures i;
     }
 
 pub record-in-spec : {M : Type 1} → statement M
@@ -46,7 +46,7 @@ record-in-spec =
     task-in-requires
     collect-at-requires
     collect-at-requires-2
-    view-at-requires
-    marks-at-requires
-    element-copy-out-t10
+    end-in-requires
+    view-in-requires
+    marks-in-requires
     returns)

@@ -1,7 +1,8 @@
 -- `packed_table::looked_at` meets its contract.
-use mathlib.Core.Path.{_∙_}
-use Rattle.unbounded_tasks.specs.Surveys.{seenBy}
-use Rattle.packed_table.proofs.Rows.{parts-seen}
+use mathlib.Core.Path.{ap, _∙_}
+use Rattle.unbounded_tasks.specs.Surveys.{registerSeen, taskSeen}
+use Rattle.unbounded_tasks.proofs.Unsound.{task-first}
+use Rattle.packed.specs.Packing.{unpackRecord}
 use borrow.Author.Needs.{needs}
 use Rattle.packed_table.proofs.looked_at.Statement.{statement}
 use Rattle.packed_table.proofs.looked_at.Tie as tie
@@ -9,23 +10,35 @@ use Rattle.packed_table.proofs.looked_at.Tie as tie
 task-in-requires : tie.Need-task-in-requires
 task-in-requires c κs = search needs
 
+task-seen-requires : tie.Need-task-seen-requires
+task-seen-requires c κs = search needs
+
 seq-in-requires : tie.Need-seq-in-requires
 seq-in-requires c κs = search needs
 
 at-in-requires : tie.Need-at-in-requires
 at-in-requires c κs = search needs
 
-seen-requires : tie.Need-seen-requires
-seen-requires c κs = search needs
+register-seen-requires : tie.Need-register-seen-requires
+register-seen-requires c κs = search needs
 
 returns : tie.Need-returns
+unfolding unpackRecord
 returns c =
-    let a = c .before .before .before .before .args in
-    c .seen .ensures
-    ∙ (λ i. seenBy (a .s) (c .before .before .before .task-in .ensures i) (c .before .before .seq-in .ensures i)
-    (c .before .at-in .ensures i))
-    ∙ parts-seen (a .s) (a .w .now)
+    let at-task = c .before .before .before in
+    let a = at-task .before .before .args in
+    let found = at-task .task-seen .ensures ∙ ap (taskSeen (a .s)) (at-task .before .task-in .ensures) in
+    c .register-seen .ensures
+    ∙ (λ i. registerSeen (found i) (c .before .before .seq-in .ensures i) (c .before .at-in .ensures i))
+    ∙ task-first (a .s) (unpackRecord (a .w .now))
 
 pub looked-at-spec : {M : Type 1} → statement M
 looked-at-spec =
-    tie.close (tie.spec task-in-requires seq-in-requires at-in-requires seen-requires returns)
+    tie.close
+    (tie.spec
+    task-in-requires
+    task-seen-requires
+    seq-in-requires
+    at-in-requires
+    register-seen-requires
+    returns)

@@ -1,7 +1,9 @@
 -- `packed_table::read_turn` meets its contract.
 use native.Mathlib.Omega.{arith}
+use Prim.Native.Nat.{_<_}
 use mathlib.Core.Path.{_≡_, sym, ap, _∙_, subst}
-use lib.ListN.{getD}
+use mathlib.Core.List.{[]}
+use lib.ListN.{length, getD, set}
 use Rattle.admission.specs.Outcomes.{acceptedOutcome}
 use Rattle.unbounded.specs.Processes.{noProcess}
 use Rattle.unbounded_tasks.specs.Accesses.{RoomFor, readsIn}
@@ -9,9 +11,9 @@ use Rattle.unbounded_tasks.specs.Tasks.{answerBy}
 use Rattle.unbounded_finds.specs.Finds.{findOf, pageBy}
 use Rattle.unbounded_turns.specs.Steps.{stateBy}
 use Rattle.unbounded_turns.proofs.Steps.{access-count}
-use Rattle.memory.specs.Turning.{Turning, readAt, foundAt}
-use Rattle.packed_table.specs.Tables.{unpackedAll, packedAt}
-use Rattle.packed_table.proofs.Rows.{records-long, record-is, register-is, turn-inside, turn-task, turning-at}
+use Rattle.memory.specs.Turning.{readAt, foundAt}
+use Rattle.packed_table.specs.Tables.{unpackedAll, recordAt, packedAt}
+use Rattle.packed_table.proofs.Rows.{records-long, record-is, register-is, turn-inside}
 use borrow.Author.Needs.{needs}
 use Rattle.packed_table.proofs.read_turn.Statement.{statement}
 use Rattle.packed_table.proofs.read_turn.Tie as tie
@@ -25,8 +27,9 @@ place-of-requires c κs = search needs
 mul-own-in : tie.Need-mul-own-in
 mul-own-in c = search needs
 
-index-1-own-in : tie.Need-index-1-own-in
-index-1-own-in c =
+-- the record that is read is one of the table's
+place-inside : (c : tie.After-place-of) → c .place-of .result < length (c .before .before .before .args .t .now)
+place-inside c =
     let start = c .before .before .before in
     let a = start .args in
     let full = start .pre .0 .full in
@@ -36,55 +39,39 @@ index-1-own-in c =
     let j = c .place-of .ensures .1 in
     omega arith
 
+index-1-own-in : tie.Need-index-1-own-in
+index-1-own-in c = place-inside c
+
 own-in-requires : tie.Need-own-in-requires
 own-in-requires c κs = search needs
 
-mul-record-in : tie.Need-mul-record-in
-mul-record-in c =
+mul-read : tie.Need-mul-read
+mul-read c =
     let start = c .before .before .before .before .before in
     let a = start .args in
     let inside = turn-inside (a .day) (a .t .now) (a .i) (a .k) (start .pre .0) in
     search needs
 
-index-1-record-in : tie.Need-index-1-record-in
-index-1-record-in c =
+index-1-read : tie.Need-index-1-read
+index-1-read c =
     let start = c .before .before .before .before .before in
     let a = start .args in
-    let inside = turn-inside (a .day) (a .t .now) (a .i) (a .k) (start .pre .0) in
-    inside
+    turn-inside (a .day) (a .t .now) (a .i) (a .k) (start .pre .0)
 
-record-in-requires : tie.Need-record-in-requires
-record-in-requires c κs = search needs
-
-find-page-requires : tie.Need-find-page-requires
-find-page-requires c κs = search needs
+read-requires : tie.Need-read-requires
+read-requires c κs = search needs
 
 lay-page-requires : tie.Need-lay-page-requires
 lay-page-requires c κs =
-    let start = c .before .before .before .before .before .before .before .before .before in
-    let access = c .before .before .before .before .before .before .before .access-of in
-    (access .ensures .1, subst (λ z. RoomFor z (start .args .page .now)) (sym (access .ensures .0)) (start .pre .1))
-
-turn-at-requires : tie.Need-turn-at-requires
-turn-at-requires c κs =
-    let start = c .before .before .before .before .before .before .before .before .before .before .before .before .before in
-    let a = start .args in
-    let find = c .before .before .before .before .before .find-page in
-    let sound = c .before .before .before .before .before .before .before .before .before .before .before .access-of .ensures .1 in (
-      turn-inside (a .day) (a .t .now) (a .i) (a .k) (start .pre .0),
-      subst (Turning _ (find .result)) (sym (c .before .before .before .before .before .before .record-in .ensures))
-          (turning-at (a .day) (a .t .now) (a .i) (a .k) (start .pre .0) _ (find .result) sound (find .ensures .1)),
-    )
+    let access = c .before .before .before .before .before .before .access-of in
+    let start = c .before .before .before .before .before .before .before .before in
+    (access .ensures .1, subst (λ z. RoomFor z (start .args .page .now)) (sym (access .ensures .0)) (start .pre .2))
 
 answer-requires : tie.Need-answer-requires
-answer-requires c κs =
-    let at-find = c .before .before .before .before .before .before .before in
-    at-find .before .before .before .before .before .before .before .before .pre .0 .turns
+answer-requires c κs = search needs
 
 accepted-requires : tie.Need-accepted-requires
-accepted-requires c κs =
-    let at-find = c .before .before .before .before .before .before .before .before in
-    at-find .before .before .before .before .before .before .before .before .pre .0 .allows .room
+accepted-requires c κs = search needs
 
 same-length : tie.Need-same-length
 same-length c = search needs
@@ -94,40 +81,31 @@ same-length-2 c = search needs
 
 returns : tie.Need-returns
 returns c =
-    let at-find = c .before .before .before .before .before .before .before .before .before in
-    let at-own = at-find .before .before .before in
+    let at-page = c .before .before .before .before in
+    let at-read = at-page .before .before in
+    let at-own = at-read .before .before in
     let at-place = at-own .before .before in
     let start = at-place .before .before .before in
     let a = start .args in
-    let full = start .pre .0 .full in
-    let long = records-long (a .t .now) in
-    let access = at-place .before .access-of in
-    let n : access .result .n ≡ a .day .count = ap (λ z. z .n) (access .ensures .0) ∙ access-count (a .day) (a .k) in
-    let j = at-place .place-of .ensures .1 in
     let t = a .t .now in
     let ps = unpackedAll t in
-    let inside = turn-inside (a .day) t (a .i) (a .k) (start .pre .0) in
-    let p = at-find .before .record-in .ensures in
-    let task = ap (λ q. q .task) p ∙ turn-task (a .day) t (a .i) (a .k) (start .pre .0) in
+    let by = at-place .before .access-of .ensures .0 in
     let place = at-place .place-of in
-    let own = at-own .own-in in
-    let find = at-find .find-page in
-    let by = access .ensures .0 in
-    let read : own .result ≡ readAt (a .day) ps (a .k) =
-    own .ensures
-    ∙ register-is t (place .result) (omega arith)
+    let inside = turn-inside (a .day) t (a .i) (a .k) (start .pre .0) in
+    let read : at-own .own-in .result ≡ readAt (a .day) ps (a .k) =
+    at-own .own-in .ensures
+    ∙ register-is t (place .result) (place-inside at-place)
     ∙ ap (λ z. getD ps z noProcess .register) (place .ensures .0 ∙ ap readsIn by) in
-    let record-in = at-find .before .record-in .ensures
-    ∙ sym (record-is t (a .i) inside) in
-    let found : find .result ≡ foundAt (a .day) ps (a .i) (a .k) =
-    find .ensures .0 ∙ (λ z. findOf (by z) (read z) (record-in z)) in (
+    let found : findOf (at-place .before .access-of .result) (at-own .own-in .result) (recordAt t (a .i))
+    ≡ foundAt (a .day) ps (a .i) (a .k) =
+    (λ z. findOf (by z) (read z) (sym (record-is t (a .i) inside) z)) in
+    let find = at-read .read .ensures .0 ∙ found in (
       c .accepted .ensures
-          ∙ ap (acceptedOutcome (a .day)) (c .before .answer .ensures ∙ ap (λ f. answerBy f (a .k)) found),
+          ∙ ap (acceptedOutcome (a .day)) (c .before .answer .ensures ∙ ap (λ f. answerBy f (a .k)) find),
       (
-        c .before .before .before .turn-at .ensures
-            ∙ (λ z. packedAt t (a .i) (stateBy (by z) (read z) (p z) (found z) (task z))),
-        c .before .before .before .before .before .before .before .lay-page .ensures ∙ (λ z. pageBy (by z) (found z)
-            (a .k) (a .page .now)),
+        ap (set t (a .i)) (at-read .read .ensures .1)
+            ∙ (λ z. packedAt t (a .i) (stateBy (by z) (read z) (recordAt t (a .i)) (found z) (a .k))),
+        at-page .lay-page .ensures ∙ (λ z. pageBy (by z) (find z) (a .k) (a .page .now)),
       ),
     )
 
@@ -140,12 +118,10 @@ read-turn-spec =
     mul-own-in
     index-1-own-in
     own-in-requires
-    mul-record-in
-    index-1-record-in
-    record-in-requires
-    find-page-requires
+    mul-read
+    index-1-read
+    read-requires
     lay-page-requires
-    turn-at-requires
     answer-requires
     accepted-requires
     same-length

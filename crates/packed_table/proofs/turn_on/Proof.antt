@@ -17,7 +17,7 @@ use Rattle.memory.specs.Turning.{TurnAt, readAt, foundAt}
 use Rattle.memory.proofs.Accepted.{admits, admits-inside, turn-at, page-fits, write-leaves, read-leaves}
 use Rattle.packed.specs.Packing.{unpackTask}
 use Rattle.packed_table.specs.Tables.{unpackedAll, recordAt, packedAt}
-use Rattle.packed_table.proofs.Rows.{records-long, record-is, task-is, stored-packed}
+use Rattle.packed_table.proofs.Rows.{records-long, record-is, task-is, stored-packed, held, failed}
 use borrow.Author.Needs.{needs}
 use Rattle.packed_table.proofs.turn_on.Statement.{statement}
 use Rattle.packed_table.proofs.turn_on.Tie as tie
@@ -66,20 +66,21 @@ task-at c =
 is-ready-requires : tie.Need-is-ready-requires
 is-ready-requires c κs = search needs
 
+-- so that the turn is one of that task
+turn-of : (c : tie.After-task-in) → let a = c .before .before .before .before .args in
+    TurnAt (a .day) (unpackedAll (a .t .now)) (c .before .before .index-in .result) (c .task-in .result)
+turn-of c =
+    let start = c .before .before .before .before in
+    let a = start .args in
+    let ps = unpackedAll (a .t .now) in
+    let h = start .pre in
+    subst (λ z. TurnAt (a .day) ps z (c .task-in .result)) (sym (c .before .before .index-in .ensures))
+    (subst (λ z. TurnAt (a .day) ps (numberIn (a .x) - 1) z) (sym (task-at c .1))
+    (turn-at (a .day) ps (a .page .now) (a .x) (h .0) (h .1) (h .2)))
+
 write-turn-requires : tie.Need-write-turn-requires
 write-turn-requires c κs =
-    let start = c .before .before .before .before .before .before .before in
-    let a = start .args in
-    let t = a .t .now in
-    let ps = unpackedAll t in
-    let h = start .pre in
-    let i = c .before .before .before .before .before .index-in .ensures in
-    let at-task = c .before .before .before in
-    let inside = task-at at-task .0 in
-    let task = task-at at-task .1 in
-    subst (λ z. TurnAt (a .day) ps z (c .before .before .before .task-in .result)) (sym i)
-    (subst (λ z. TurnAt (a .day) ps (numberIn (a .x) - 1) z) (sym task)
-    (turn-at (a .day) ps (a .page .now) (a .x) (h .0) (h .1) (h .2)))
+    (turn-of (c .before .before .before), held (c .before .before .is-ready .ensures) (c .before .if1 .taken))
 
 same-length : tie.Need-same-length
 same-length c = search needs
@@ -114,23 +115,14 @@ returns c =
 
 read-turn-requires : tie.Need-read-turn-requires
 read-turn-requires c κs =
-    let start = c .before .before .before .before .before .before .before .before in
+    let at-task = c .before .before .before .before in
+    let start = at-task .before .before .before .before in
     let a = start .args in
-    let t = a .t .now in
-    let ps = unpackedAll t in
-    let h = start .pre in
-    let l = admits-inside (a .day) ps (a .page .now) (a .x) (h .0) (h .2) in
-    let long = records-long t in
-    let inside : numberIn (a .x) - 1 < length t = omega arith in
-    let i = c .before .before .before .before .before .before .index-in .ensures in
-    let task : c .before .before .before .before .task-in .result ≡ getD ps (numberIn (a .x) - 1) noProcess .task =
-    c .before .before .before .before .task-in .ensures
-    ∙ ap (λ j. unpackTask (drop 11 (getD t j []))) i
-    ∙ task-is t (numberIn (a .x) - 1) inside in (
-      subst (λ z. TurnAt (a .day) ps z (c .before .before .before .before .task-in .result)) (sym i)
-          (subst (λ z. TurnAt (a .day) ps (numberIn (a .x) - 1) z) (sym task)
-          (turn-at (a .day) ps (a .page .now) (a .x) (h .0) (h .1) (h .2))),
-      subst (λ z. RoomFor (accessOf (a .day) z) (a .page .now)) (sym task)
+    let ps = unpackedAll (a .t .now) in
+    let h = start .pre in (
+      turn-of at-task,
+      failed (c .before .before .before .is-ready .ensures) (c .before .before .if1 .left),
+      subst (λ z. RoomFor (accessOf (a .day) z) (a .page .now)) (sym (task-at at-task .1))
           (page-fits (a .day) ps (a .page .now) (a .x) (h .0) (h .1) (h .2)),
     )
 

@@ -1,16 +1,21 @@
 -- `unbounded_tasks::surveys::surveyed` meets its contract.
-use Rattle.unbounded.specs.Days.{unsound}
-use Rattle.unbounded_tasks.specs.Surveys.{seenBy, surveyedBy}
+use mathlib.Core.Path.{ap, _∙_}
+use Rattle.unbounded_tasks.specs.Surveys.{taskSeen}
+use Rattle.unbounded_tasks.proofs.Unsound.{parts-seen}
 use borrow.Author.Needs.{needs}
 use Rattle.unbounded_tasks.proofs.surveys.surveyed.Statement.{statement}
 use Rattle.unbounded_tasks.proofs.surveys.surveyed.Tie as tie
 
-seen-requires : tie.Need-seen-requires
-seen-requires c κs = search needs
+register-seen-requires : tie.Need-register-seen-requires
+register-seen-requires c κs = search needs
+
+task-seen-requires : tie.Need-task-seen-requires
+task-seen-requires c κs = search needs
 
 returns : tie.Need-returns
-unfolding seenBy surveyedBy unsound
-returns c = c .seen .ensures
+returns c =
+    let a = c .before .before .args in
+    c .task-seen .ensures ∙ ap (λ s. taskSeen s (a .p .task)) (c .before .register-seen .ensures) ∙ parts-seen (a .s) (a .p)
 
 pub surveyed-spec : {M : Type 1} → statement M
-surveyed-spec = tie.close (tie.spec seen-requires returns)
+surveyed-spec = tie.close (tie.spec register-seen-requires task-seen-requires returns)

@@ -6,7 +6,7 @@ use mathlib.Core.List.{List, map}
 use native.Mathlib.Omega.{arith}
 use lib.ListN.{length, getD, set, replicate, length-map, length-replicate, getD-replicate}
 use Rattle.snapshot.specs.Lists.{over}
-use Rattle.snapshot.proofs.Lists.{getD-over-at, over-more, getD-map-below}
+use Rattle.snapshot.proofs.Lists.{over-more}
 use Rattle.unbounded.specs.declared.Register.{Register}
 use Rattle.unbounded.specs.declared.Process.{Process}
 use Rattle.unbounded.specs.Registers.{noRegister, laid, cleared}
@@ -14,6 +14,7 @@ use Rattle.unbounded.specs.Processes.{begin}
 use Rattle.unbounded.proofs.Register as R
 use Rattle.unbounded_turns.specs.Steps.{begunBy}
 use Rattle.unbounded_turns.proofs.Parts.{withCollected}
+use Rattle.unbounded_turns.proofs.Clearing.{clear-more}
 use denote.Struct.Field.{u32-field}
 use borrow.Author.Needs.{needs}
 use Rattle.unbounded_turns.proofs.records.begun.Statement.{statement}
@@ -24,17 +25,6 @@ abbrev clearedTo : (n i : ℕ) → Register → Process → Process
 clearedTo n i z p =
     let clear : List Register → List Register = λ rs. over i (map (laid n z) rs) rs in
     withCollected (clear (p .first)) (clear (p .second)) (p .«first_end») (over i (replicate 8 0) (p .view)) (p .moved) p
-
--- place i cleared in a collect whose first i are
-one-more : (n i : ℕ) (z : Register) (rs : List Register) → i < length rs →
-    let f = laid n z in let cs = over i (map f rs) rs in
-    set cs i (f (getD cs i noRegister)) ≡ over (i + 1) (map f rs) rs
-one-more n i z rs l =
-    let f = laid n z in
-    let m = length-map rs f in
-    ap (λ v. set (over i (map f rs) rs) i v)
-    (ap f (getD-over-at i (map f rs) rs noRegister (omega arith) l) ∙ sym (getD-map-below f rs i noRegister noRegister l))
-    ∙ over-more i (map f rs) rs noRegister (omega arith) l
 
 no-word : (i : ℕ) (v : List ℕ) → i < 8 → i < length v →
     set (over i (replicate 8 0) v) i 0 ≡ over (i + 1) (replicate 8 0) v
@@ -53,8 +43,8 @@ stored-clears : (n i : ℕ) (z : Register) (p q : Process) (x y : Register) → 
     i < 8 → i < length (p .first) → i < length (p .second) → i < length (p .view) →
     stored i x y q ≡ clearedTo n (i + 1) z p
 stored-clears n i z p q x y e d d′ l la lb lv =
-    let first = one-more n i z (p .first) la in
-    let second = one-more n i z (p .second) lb in
+    let first = clear-more n i z (p .first) la in
+    let second = clear-more n i z (p .second) lb in
     let view = no-word i (p .view) l lv in
     (λ t. stored i (d t) (d′ t) q)
     ∙ ap (λ s. stored i (laid n z (getD (s .first) i noRegister)) (laid n z (getD (s .second) i noRegister)) s) e

@@ -1,21 +1,21 @@
--- `packed::lay_view` meets its contract.
+-- `packed::lay_words` meets its contract.
 use Prim.Native.Nat.{_+_, _-_, _≤_}
 use native.Mathlib.Numerals.{add-one}
 use native.Mathlib.Omega.{arith}
 use mathlib.Core.Path.{_≡_, refl, sym, ap, _∙_}
 use lib.ListN.{take, set}
-use lib.Seq.{sets, take-all}
+use lib.Seq.{sets}
 use Rattle.packed.specs.Packing.{wordAt}
 use Rattle.packed.proofs.Words.{sets-more}
 use borrow.Author.Needs.{needs}
-use Rattle.packed.proofs.lay_view.Statement.{statement}
-use Rattle.packed.proofs.lay_view.Tie as tie
+use Rattle.packed.proofs.lay_words.Statement.{statement}
+use Rattle.packed.proofs.lay_words.Tie as tie
 
 abbrev Inv-loop : tie.InvT-loop
-Inv-loop w₀ a v i₀ w i = (i ≤ 8) × (w ≡ sets w₀ a (take i v))
+Inv-loop w₀ a n v i₀ w i = (i ≤ n) × (w ≡ sets w₀ a (take i v))
 
 abbrev μ-loop : tie.MeasureT-loop
-μ-loop w₀ a v i₀ w i = 8 - i
+μ-loop w₀ a n v i₀ w i = n - i
 
 loop-holds : tie.Need-loop-holds Inv-loop μ-loop
 loop-holds c = (omega arith, refl)
@@ -46,18 +46,19 @@ loop-again c =
     let x = c .before .before .args in
     let l = c .before .loop in (
       omega arith,
-      ap (λ w. set w (x .a + l .i) (wordAt (x .t3) (l .i))) (l .inv .1) ∙ sets-more (x .w .now) (x .a) (x .t3) (l .i)
+      ap (λ w. set w (x .a + l .i) (wordAt (x .t4) (l .i))) (l .inv .1) ∙ sets-more (x .w .now) (x .a) (x .t4) (l .i)
           (omega arith)
-          ∙ ap (λ k. sets (x .w .now) (x .a) (take k (x .t3))) (sym (add-one (l .i))),
+          ∙ ap (λ k. sets (x .w .now) (x .a) (take k (x .t4))) (sym (add-one (l .i))),
     )
 
 returns : tie.Need-returns Inv-loop μ-loop
 returns c =
     let x = c .before .before .args in
-    c .before .loop .inv .1 ∙ ap (sets (x .w .now) (x .a)) (take-all (c .before .loop .i) (x .t3) (omega arith))
+    let all : c .before .loop .i ≡ x .n = omega arith in
+    c .before .loop .inv .1 ∙ ap (λ k. sets (x .w .now) (x .a) (take k (x .t4))) all
 
-pub lay-view-spec : {M : Type 1} → statement M
-lay-view-spec =
+pub lay-words-spec : {M : Type 1} → statement M
+lay-words-spec =
     tie.close
     (tie.spec
     Inv-loop

@@ -1,10 +1,9 @@
--- `unbounded_turns::records::written` meets its contract.
+-- `unbounded_turns::records::written_over` meets its contract.
 use mathlib.Core.Path.{sym, ap, _∙_}
-use Rattle.unbounded.specs.Turns.{written}
-use Rattle.unbounded_turns.specs.Steps.{writtenBy}
+use Rattle.unbounded_turns.specs.Steps.{writtenOver}
 use borrow.Author.Needs.{needs}
-use Rattle.unbounded_turns.proofs.records.written.Statement.{statement}
-use Rattle.unbounded_turns.proofs.records.written.Tie as tie
+use Rattle.unbounded_turns.proofs.records.written_over.Statement.{statement}
+use Rattle.unbounded_turns.proofs.records.written_over.Tie as tie
 
 enum-told : tie.Need-enum-told
 enum-told c = search needs
@@ -18,8 +17,8 @@ enum-told-3 c = search needs
 enum-known-k : tie.Need-enum-known-k
 enum-known-k c = search needs
 
-add-t11 : tie.Need-add-t11
-add-t11 c = search needs
+add-t10 : tie.Need-add-t10
+add-t10 c = search needs
 
 lay-requires : tie.Need-lay-requires
 lay-requires c κs = search needs
@@ -34,20 +33,19 @@ returns-3 : tie.Need-returns-3
 returns-3 c = search needs
 
 returns-4 : tie.Need-returns-4
-unfolding written
 returns-4 c =
-    let a = c .before .before .before .before .before .before .before .args in
-    c .lay .ensures ∙ sym (ap (writtenBy (a .a) (a .p)) (c .before .before .before .k .given .1))
+    let a = c .before .before .before .before .before .args in
+    c .lay .ensures ∙ sym (ap (writtenOver (a .a) (a .old) (a .view)) (c .before .before .before .k .given .1))
 
-pub written-spec : {M : Type 1} → statement M
-written-spec =
+pub written-over-spec : {M : Type 1} → statement M
+written-over-spec =
     tie.close
     (tie.spec
     enum-told
     enum-told-2
     enum-told-3
     enum-known-k
-    add-t11
+    add-t10
     lay-requires
     returns
     returns-2

@@ -1,0 +1,269 @@
+-- A part stored in the words of a packed record gives those of the record with that part; and a task and marks stored in any words
+-- give those of a packed record (`tidied`).
+use Prim.Native.Nat.{ℕ, zero, suc, _+_, _*_, _<_, _≤_}
+use native.Mathlib.Nat.{zero-add, not-suc-le-zero}
+use native.Mathlib.Omega.{arith}
+use mathlib.Core.Path.{_≡_, refl, sym, ap, _∙_}
+use mathlib.Core.Bool.{Bool}
+use mathlib.Core.List.{List, [], _∷_, _++_, map, append-assoc}
+use lib.ListN.{length, getD, take, drop, set, length-map, length-append}
+use lib.Seq.{sets, length-sets, length-take-le}
+use Rattle.snapshot.specs.Lists.{over}
+use Rattle.snapshot.proofs.Lists.{length-over}
+use Rattle.unbounded.specs.declared.Register.{Register}
+use Rattle.unbounded.specs.declared.Process.{Process}
+use Rattle.unbounded.specs.declared.Task.{Task}
+use Rattle.unbounded.specs.Registers.{noRegister, laid, readInto}
+use Rattle.unbounded.proofs.Whole.{whole-read}
+use Rattle.unbounded_turns.specs.Steps.{withTask}
+use Rattle.unbounded_turns.proofs.Parts.{withRegister, withCollected}
+use Rattle.packed.specs.Packing.{packRegister, storedAt, packTask, packCollect, packMark, packRecord, packedOver}
+use Rattle.packed.specs.Packing.{words, unpackRecord}
+use Rattle.packed.proofs.Words.{sets-cons, sets-same, sets-over, sets-within}
+use Rattle.packed.proofs.Packing.{Views, Eights, register-long, task-long, collect-views, own-long, first-long, second-long}
+use Rattle.packed.proofs.Packing.{packed-long, unpack-whole}
+use Rattle.packed.proofs.Kept.{by-parts}
+
+-- ---- stores in lists that are joined
+
+sets-past : (xs ys : List ℕ) (j : ℕ) (vs : List ℕ) → sets (xs ++ ys) (length xs + j) vs ≡ xs ++ sets ys j vs
+sets-past [] ys j vs = ap (λ k. sets ys k vs) (zero-add j)
+sets-past (x ∷ xs) ys j vs =
+    let e : suc (length xs) + j ≡ suc (length xs + j) = omega arith in
+    ap (λ k. sets (x ∷ (xs ++ ys)) k vs) e ∙ sets-cons x (xs ++ ys) (length xs + j) vs ∙ ap (λ l. x ∷ l) (sets-past xs ys j vs)
+
+-- past the first list, which has k elements
+past : (xs ys vs : List ℕ) {zs : List ℕ} (k m j : ℕ) → length xs ≡ k → k + m ≡ j → sets ys m vs ≡ zs →
+    sets (xs ++ ys) j vs ≡ xs ++ zs
+past xs ys vs k m j e q h =
+    ap (λ i. sets (xs ++ ys) i vs) (sym q ∙ ap (λ i. i + m) (sym e)) ∙ sets-past xs ys m vs ∙ ap (λ l. xs ++ l) h
+
+-- at its front
+front : (us xs vs : List ℕ) (k : ℕ) → length vs ≡ k → k ≤ length us → sets (us ++ xs) 0 vs ≡ (vs ++ drop k us) ++ xs
+front us xs vs k e h = stores us vs (omega arith) ∙ ap (λ i. (vs ++ drop i us) ++ xs) e
+  where
+    stores : (us vs : List ℕ) → length vs ≤ length us → sets (us ++ xs) 0 vs ≡ (vs ++ drop (length vs) us) ++ xs
+    stores us [] h = refl
+    stores [] (v ∷ vs) h = absurd (not-suc-le-zero h)
+    stores (u ∷ us) (v ∷ vs) h = sets-cons v (us ++ xs) 0 vs ∙ ap (λ l. v ∷ l) (stores us vs (omega arith))
+
+-- all of it
+here : (us xs vs : List ℕ) → length us ≡ length vs → sets (us ++ xs) 0 vs ≡ vs ++ xs
+here [] xs [] e = refl
+here [] xs (v ∷ vs) e = absurd (omega arith)
+here (u ∷ us) xs [] e = absurd (omega arith)
+here (u ∷ us) xs (v ∷ vs) e = sets-cons v (us ++ xs) 0 vs ∙ ap (λ l. v ∷ l) (here us xs vs (omega arith))
+
+-- ---- a register stored in a collect
+
+module _ (n : ℕ) (r : Register) where
+  stored-past : (xs ys : List ℕ) {zs : List ℕ} (k m j : ℕ) → length xs ≡ k → k + m ≡ j → storedAt n r m ys ≡ zs →
+      storedAt n r j (xs ++ ys) ≡ xs ++ zs
+  unfolding storedAt
+  stored-past xs ys k m j e q h =
+      let head = r .word ∷ r .seq ∷ take n (r .view) in
+      ap (λ l. sets l (j + 10) (r .at ∷ [])) (past xs ys head k m j e q refl)
+      ∙ past xs (sets ys m head) (r .at ∷ []) k (m + 10) (j + 10) e (omega arith) h
+
+  -- over another register
+  stored-here : (old : Register) (rest : List ℕ) → n ≤ 8 → length (r .view) ≡ 8 → length (old .view) ≡ 8 →
+      storedAt n r 0 (packRegister old ++ rest) ≡ packRegister (laid n r old) ++ rest
+  unfolding storedAt laid
+  stored-here old rest b e l =
+      let vs = take n (r .view) in
+      let long : length vs ≡ n = length-take-le n (r .view) (omega arith) in
+      let view = over n (r .view) (old .view) in
+      let same : length view ≡ 8 = length-over n (r .view) (old .view) long (omega arith) ∙ l in
+      ap (λ ws. sets (sets (r .word ∷ r .seq ∷ ws) 2 vs) 10 (r .at ∷ [])) (append-assoc (old .view) (old .at ∷ []) rest)
+      ∙ ap (λ ws. sets ws 10 (r .at ∷ []))
+      (past (r .word ∷ r .seq ∷ []) _ vs 2 0 2 refl refl
+      (front (old .view) (old .at ∷ rest) vs n long (omega arith)))
+      ∙ past (r .word ∷ r .seq ∷ []) (view ++ (old .at ∷ rest)) (r .at ∷ []) 2 8 10 refl refl
+      (past view (old .at ∷ rest) (r .at ∷ []) 8 0 8 same refl refl)
+      ∙ ap (λ ws. r .word ∷ r .seq ∷ ws) (sym (append-assoc view (r .at ∷ []) rest))
+
+  -- in place i of a collect
+  stored-place : (rs : List Register) (rest : List ℕ) (i : ℕ) → n ≤ 8 → length (r .view) ≡ 8 → Views rs → i < length rs →
+      storedAt n r (11 * i) (packCollect rs ++ rest) ≡ packCollect (readInto n r i rs) ++ rest
+  unfolding readInto
+  stored-place [] rest i b e h l = absurd (not-suc-le-zero l)
+  stored-place (s ∷ rs) rest zero b e h l =
+      ap (storedAt n r 0) (append-assoc (packRegister s) (packCollect rs) rest)
+      ∙ stored-here s (packCollect rs ++ rest) b e (h .0)
+      ∙ sym (append-assoc (packRegister (laid n r s)) (packCollect rs) rest)
+  stored-place (s ∷ rs) rest (suc i) b e h l =
+      ap (storedAt n r (11 * suc i)) (append-assoc (packRegister s) (packCollect rs) rest)
+      ∙ stored-past (packRegister s) (packCollect rs ++ rest) 11 (11 * i) (11 * suc i) (register-long s (h .0)) (omega arith)
+      (stored-place rs rest i b e (h .1) (omega arith))
+      ∙ sym (append-assoc (packRegister s) (packCollect (readInto n r i rs)) rest)
+
+-- ---- a part stored in the words of a packed record
+
+module _ (q : Process) (e : Eights q) where
+  abbrev A : List ℕ
+  A = packRegister (q .register)
+
+  abbrev B : List ℕ
+  B = packTask (q .task)
+
+  abbrev C : List ℕ
+  C = packCollect (q .first)
+
+  abbrev D : List ℕ
+  D = packCollect (q .second)
+
+  first-stored : (n : ℕ) (r : Register) (i : ℕ) → n ≤ 8 → length (r .view) ≡ 8 → i < 8 →
+      storedAt n r (15 + 11 * i) (packRecord q)
+      ≡ packRecord (withCollected (readInto n r i (q .first)) (q .second) (q .«first_end») (q .view) (q .moved) q)
+  unfolding packRecord
+  first-stored n r i b v l =
+      let places = e .0 .first .places in
+      stored-past n r A _ 11 (4 + 11 * i) (15 + 11 * i) (own-long q e) (omega arith)
+      (stored-past n r B _ 4 (11 * i) (4 + 11 * i) (task-long (q .task)) refl
+      (stored-place n r (q .first) _ i b v (collect-views (q .first) (e .0 .first)) (omega arith)))
+
+  second-stored : (n : ℕ) (r : Register) (i : ℕ) → n ≤ 8 → length (r .view) ≡ 8 → i < 8 →
+      storedAt n r (103 + 11 * i) (packRecord q)
+      ≡ packRecord (withCollected (q .first) (readInto n r i (q .second)) (q .«first_end») (q .view) (q .moved) q)
+  unfolding packRecord
+  second-stored n r i b v l =
+      let places = e .0 .second .places in
+      stored-past n r A _ 11 (92 + 11 * i) (103 + 11 * i) (own-long q e) (omega arith)
+      (stored-past n r B _ 4 (88 + 11 * i) (92 + 11 * i) (task-long (q .task)) (omega arith)
+      (stored-past n r C _ 88 (11 * i) (88 + 11 * i) (first-long q e) refl
+      (stored-place n r (q .second) _ i b v (collect-views (q .second) (e .0 .second)) (omega arith))))
+
+  -- past both collects
+  past-second : (xs vs : List ℕ) {zs : List ℕ} (j : ℕ) → sets xs j vs ≡ zs →
+      sets (A ++ (B ++ (C ++ (D ++ xs)))) (191 + j) vs ≡ A ++ (B ++ (C ++ (D ++ zs)))
+  past-second xs vs j h =
+      past A _ vs 11 (180 + j) (191 + j) (own-long q e) (omega arith)
+      (past B _ vs 4 (176 + j) (180 + j) (task-long (q .task)) (omega arith)
+      (past C _ vs 88 (88 + j) (176 + j) (first-long q e) (omega arith)
+      (past D _ vs 88 j (88 + j) (second-long q e) refl h)))
+
+  end-stored : (end : ℕ) → set (packRecord q) 191 end ≡ packRecord (withCollected (q .first) (q .second) end (q .view) (q .moved) q)
+  unfolding packRecord
+  end-stored end = past-second _ (end ∷ []) 0 refl
+
+  view-stored : (n : ℕ) (v : List ℕ) → n ≤ 8 → length v ≡ 8 → sets (packRecord q) 192 (take n v)
+      ≡ packRecord (withCollected (q .first) (q .second) (q .«first_end») (over n v (q .view)) (q .moved) q)
+  unfolding packRecord
+  view-stored n v b l =
+      let long : length (take n v) ≡ n = length-take-le n v (omega arith) in
+      let words = e .0 .view in
+      past-second _ (take n v) 1 (past (q .«first_end» ∷ []) _ (take n v) 1 0 1 refl refl
+      (front (q .view) _ (take n v) n long (omega arith)))
+
+-- ---- a part stored in a record that is packed over any words
+
+pub own-laid : (ws : List ℕ) (q : Process) (r : Register) → length (q .register .view) ≡ 8 → length (r .view) ≡ 8 →
+    sets (packedOver ws q) 0 (packRegister r) ≡ packedOver ws (withRegister r q)
+unfolding packRecord
+own-laid ws q r e l =
+    sets-over ws 0 [] (packRegister (q .register)) (packRegister r) _ 0 refl
+    (register-long (q .register) e ∙ sym (register-long r l))
+
+pub task-laid : (ws : List ℕ) (q : Process) (k : Task) → length (q .register .view) ≡ 8 →
+    sets (packedOver ws q) 11 (packTask k) ≡ packedOver ws (withTask k q)
+unfolding packRecord
+task-laid ws q k e =
+    sets-over ws 0 (packRegister (q .register)) (packTask (q .task)) (packTask k) _ 11
+    (zero-add (length (packRegister (q .register))) ∙ register-long (q .register) e) (task-long (q .task) ∙ sym (task-long k))
+
+stored-within : (ws vs : List ℕ) (n : ℕ) (r : Register) (a : ℕ) → n ≤ 8 → length (r .view) ≡ 8 → a + 11 ≤ length vs →
+    storedAt n r a (sets ws 0 vs) ≡ sets ws 0 (storedAt n r a vs)
+unfolding storedAt
+stored-within ws vs n r a b e h =
+    let head = r .word ∷ r .seq ∷ take n (r .view) in
+    let long : length (take n (r .view)) ≡ n = length-take-le n (r .view) (omega arith) in
+    let same = length-sets vs a head in
+    ap (λ l. sets l (a + 10) (r .at ∷ [])) (sets-within ws vs head a (omega arith))
+    ∙ sets-within ws (sets vs a head) (r .at ∷ []) (a + 10) (omega arith)
+
+module _ (ws : List ℕ) (q : Process) (e : Eights q) where
+  abbrev row : List ℕ
+  row = packRecord q
+
+  long-row : length row ≡ 208
+  long-row = packed-long q e
+
+  pub end-laid : (end : ℕ) → set (packedOver ws q) 191 end
+      ≡ packedOver ws (withCollected (q .first) (q .second) end (q .view) (q .moved) q)
+  end-laid end =
+      let h = long-row in
+      sets-within ws row (end ∷ []) 191 (omega arith) ∙ ap (sets ws 0) (end-stored q e end)
+
+  pub view-laid : (n : ℕ) (v : List ℕ) → n ≤ 8 → length v ≡ 8 → sets (packedOver ws q) 192 (take n v)
+      ≡ packedOver ws (withCollected (q .first) (q .second) (q .«first_end») (over n v (q .view)) (q .moved) q)
+  view-laid n v b l =
+      let h = long-row in
+      let k : length (take n v) ≡ n = length-take-le n v (omega arith) in
+      sets-within ws row (take n v) 192 (omega arith) ∙ ap (sets ws 0) (view-stored q e n v b l)
+
+  -- a register read into a place of the collects
+  module _ (n : ℕ) (r : Register) (i : ℕ) (b : n ≤ 8) (v : length (r .view) ≡ 8) (l : i < 8) where
+    abbrev pub first-read : Process
+    first-read = withCollected (readInto n r i (q .first)) (q .second) (q .«first_end») (q .view) (q .moved) q
+
+    abbrev pub second-read : Process
+    second-read = withCollected (q .first) (readInto n r i (q .second)) (q .«first_end») (q .view) (q .moved) q
+
+    pub first-laid : storedAt n r (15 + 11 * i) (packedOver ws q) ≡ packedOver ws first-read
+    first-laid =
+        let h = long-row in
+        stored-within ws row n r (15 + 11 * i) b v (omega arith) ∙ ap (sets ws 0) (first-stored q e n r i b v l)
+
+    pub second-laid : storedAt n r (15 + 11 * (8 + i)) (packedOver ws q) ≡ packedOver ws second-read
+    second-laid =
+        let h = long-row in
+        let place : 15 + 11 * (8 + i) ≡ 103 + 11 * i = omega arith in
+        ap (λ a. storedAt n r a (packedOver ws q)) place
+        ∙ stored-within ws row n r (103 + 11 * i) b v (omega arith) ∙ ap (sets ws 0) (second-stored q e n r i b v l)
+
+    pub first-eights : Eights first-read
+    first-eights =
+        let w = e .0 in
+        let first = whole-read n b (q .first) (w .first) r (omega arith) i in
+        (record { register = w .register; view = w .view; first = first; second = w .second }, e .1)
+
+    pub second-eights : Eights second-read
+    second-eights =
+        let w = e .0 in
+        let second = whole-read n b (q .second) (w .second) r (omega arith) i in
+        (record { register = w .register; view = w .view; first = w .first; second = second }, e .1)
+
+-- another task, end, view or marks
+pub eights-with : (q : Process) → Eights q → (k : Task) (end : ℕ) (v : List ℕ) (ms : List Bool) → length v ≡ 8 → length ms ≡ 8 →
+    Eights (withCollected (q .first) (q .second) end v ms (withTask k q))
+eights-with q e k end v ms words marks =
+    let w = e .0 in
+    (record { register = w .register; view = words; first = w .first; second = w .second }, marks)
+
+-- ---- a task and marks stored in any words
+
+pub tidied : (ws : List ℕ) (k : Task) (ms : List Bool) → length ms ≡ 8 → let p = unpackRecord ws in
+    sets (sets ws 11 (packTask k)) 200 (map packMark ms)
+    ≡ packedOver ws (withCollected (p .first) (p .second) (p .«first_end») (p .view) ms (withTask k p))
+unfolding packRecord unpackRecord
+tidied ws k ms l =
+    let p = unpackRecord ws in
+    let e = unpack-whole ws in
+    let q = withTask k p in
+    let marks = map packMark ms in
+    let same = length-map ms packMark in
+    let four = task-long k in
+    let vs = words 208 ws in
+    let stored = length-sets vs 11 (packTask k) in
+    ap (λ l. sets (sets l 11 (packTask k)) 200 marks) (sym (sets-same 208 ws))
+    ∙ ap (λ l. sets l 200 marks) (sets-within ws vs (packTask k) 11 (omega arith))
+    ∙ sets-within ws (sets vs 11 (packTask k)) marks 200 (omega arith)
+    ∙ ap (sets ws 0)
+    (ap (λ l. sets (sets l 11 (packTask k)) 200 marks) (sym (by-parts ws))
+    ∙ ap (λ l. sets l 200 marks)
+    (past (packRegister (p .register)) _ (packTask k) 11 0 11 refl refl
+    (here (words 4 (drop 11 ws)) _ (packTask k) (sym (task-long k))))
+    ∙ past-second q (eights-with p e k (p .«first_end») (p .view) (p .moved) refl refl) _ marks 9
+    (past (p .«first_end» ∷ []) _ marks 1 8 9 refl refl
+    (past (p .view) _ marks 8 0 8 refl refl
+    (here (words 8 (drop 200 ws)) _ marks (sym (length-map ms packMark ∙ l))))))

@@ -1,0 +1,2 @@
+-- Turns on one packed record.
+pub mod Places
