@@ -4,7 +4,7 @@
 
 #include "../bindings/c/nelvaquist.h"
 
-static uint32_t table[NQ_MOST_DESKS][NQ_RECORD_WORDS];
+static struct nq_desk table[NQ_MOST_DESKS];
 static uint32_t page[NQ_MOST_DESKS];
 static unsigned char file[1 << 24];
 
@@ -14,15 +14,15 @@ int main(void)
     struct nq_reply day = {0};
 
     for (;;) {
-        struct nq_record record = nq_read(file + at, length - at);
-        uint32_t lent = record.kind == NQ_OPEN ? record.desk : day.count;
+        struct nq_request request = nq_read(file + at, length - at);
+        uint32_t lent = request.kind == NQ_ASK_OPEN ? request.desk : day.count;
 
-        if (record.next == 0)
+        if (request.next == 0)
             break;
         if (lent > NQ_MOST_DESKS)
             lent = 0;
-        day = nq_step(day.count, day.event, table, lent, record.kind, record.desk, record.word, page, NQ_MOST_DESKS);
-        at += record.next;
+        day = nq_step(day.count, day.event, table, lent, request.kind, request.desk, request.word, page, NQ_MOST_DESKS);
+        at += request.next;
     }
     printf("%lu\n", (unsigned long)day.event);
     return 0;

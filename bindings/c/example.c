@@ -12,9 +12,10 @@
 
 /* All that the register knows. The last reply has the day, a blank one at first. */
 static struct nq_reply last;
-static uint32_t table[DESKS][NQ_RECORD_WORDS];
+static struct nq_desk table[DESKS];
 static uint32_t page[DESKS];
 
+/* Ends the program if something does not hold. */
 static void expect(int holds, const char *what)
 {
     if (!holds) {
@@ -23,22 +24,23 @@ static void expect(int holds, const char *what)
     }
 }
 
+/* Gives a desk a turn and prints what it is answered. */
 static void turn(uint32_t desk)
 {
     int i;
 
     last = nq_turn(last.count, last.event, table, DESKS, desk, page, DESKS);
-    switch (last.kind) {
+    switch (last.answer) {
     case NQ_REFUSED:
         printf("refused %" PRIu32 "\n", last.refusal);
         break;
     case NQ_READ:
         printf("%" PRIu32 " read %" PRIu32 "\n", last.event, desk);
         break;
-    case NQ_ROW_WRITTEN:
+    case NQ_WRITTEN:
         printf("%" PRIu32 " written %" PRIu32 " turns %" PRIu32 "\n", last.event, desk, last.turns);
         break;
-    case NQ_PAGE_SHOWN:
+    case NQ_PAGE:
         printf("%" PRIu32 " page %" PRIu32 " from %" PRIu32, last.event, desk, last.lender);
         printf(" at %" PRIu32 " turns %" PRIu32 " words", last.at, last.turns);
         for (i = 0; i < DESKS; i++)
@@ -52,27 +54,28 @@ static void turn(uint32_t desk)
 
 int main(void)
 {
+    expect(nq_version() == NQ_VERSION, "the library has the version of the header");
     last = nq_open(last.count, last.event, table, DESKS, DESKS);
-    expect(last.kind == NQ_OPENED, "the day is opened");
+    expect(last.answer == NQ_OPENED, "the day is opened");
     printf("open %" PRIu32 "\n", last.count);
 
     last = nq_entry(last.count, last.event, table, DESKS, 1, 7);
-    expect(last.kind == NQ_CALLED, "desk 1's entry call is taken");
+    expect(last.answer == NQ_CALLED, "desk 1's entry call is taken");
     printf("%" PRIu32 " entry 1 7\n", last.event);
     do
         turn(1);
-    while (last.kind == NQ_READ);
-    expect(last.kind == NQ_ROW_WRITTEN && last.turns == 5, "row 1 is written by the fifth turn");
-    expect(table[0][NQ_ROW_WORD] == 7, "row 1 holds 7");
-    expect(table[0][NQ_ROW_SEQ] == 1, "row 1 has been written once");
+    while (last.answer == NQ_READ);
+    expect(last.answer == NQ_WRITTEN && last.turns == 5, "row 1 is written by the fifth turn");
+    expect(table[0].row.word == 7, "row 1 holds 7");
+    expect(table[0].row.seq == 1, "row 1 has been written once");
 
     last = nq_page(last.count, last.event, table, DESKS, 2);
-    expect(last.kind == NQ_CALLED, "desk 2's page call is taken");
+    expect(last.answer == NQ_CALLED, "desk 2's page call is taken");
     printf("%" PRIu32 " asked 2\n", last.event);
     do
         turn(2);
-    while (last.kind == NQ_READ);
-    expect(last.kind == NQ_PAGE_SHOWN && last.turns == 4, "the page is shown by the fourth turn");
+    while (last.answer == NQ_READ);
+    expect(last.answer == NQ_PAGE && last.turns == 4, "the page is shown by the fourth turn");
     expect(last.lender == 0 && last.at == 9, "the page has no lender and stood after event 9");
     expect(page[0] == 7 && page[1] == 0, "the page shows 7 and 0");
 

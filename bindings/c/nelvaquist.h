@@ -3,17 +3,19 @@
  * Each desk owns one row, which holds a word of 32 bits. A desk writes its row by an entry and reads
  * all rows together by a page. Both begin with a call and go on by turns, which the caller hands out
  * to the desks in any order; a turn reads or writes one row. A page shows what stood in the rows at
- * one instant, however the turns of other desks fall between its own.
+ * one instant between its call and its answer, however the turns of other desks fall between its own.
+ * example.c, beside this file, is a whole day.
  *
  * The caller keeps all that the register knows, and lends it to every request:
  *
  *   the day        its desk count n, 0 before the opening, and its event number. They are passed by
  *                  value: 0 and 0 at first, then those of the reply before.
- *   the table      n desk records of NQ_RECORD_WORDS words each, that of desk 1 first
+ *   the table      n desk records, that of desk 1 first: an array, or calloc(n, sizeof *table)
  *   the page list  words in which a page is answered, for turns only
  *
  * The library keeps nothing between calls, allocates nothing and does no input or output. What it is
- * lent stays the caller's.
+ * lent stays the caller's. Calls on different tables and page lists may run at once in any threads.
+ * It needs memcpy and memset, and less than 4 KiB of stack.
  *
  * The caller must hold to this, even for a request that will be refused:
  *
@@ -21,11 +23,13 @@
  *   - table points to `records` whole records, page to `words` words, bytes to `length` bytes, all
  *     initialised;
  *   - table and page list do not overlap;
- *   - nobody else reads or writes table or page list, or writes bytes, during the call.
+ *   - nobody else reads or writes table or page list, or writes bytes, during the call;
+ *   - nq_version() is NQ_VERSION: with a library of another version nothing here holds.
  *
  * Nothing else is asked. Every number and every word may be anything: what does not fit is refused,
  * and what no refusal names is worked on by the rules. Nothing outside of what is lent is touched.
- * Pages are true on a day that grew from an opening, each request lent what the one before left. */
+ * Pages are true on a day that grew from an opening, each request lent what the one before left; on
+ * words that were damaged, what a page shows and its `at` can be anything. */
 #ifndef NELVAQUIST_H
 #define NELVAQUIST_H
 
@@ -36,29 +40,63 @@
 extern "C" {
 #endif
 
-enum {
-    NQ_MOST_DESKS = 8,
-    NQ_LAST_EVENT = 65535, /* the number of the last event that a day can have */
-    NQ_ROW_WORDS = 11,
-    NQ_RECORD_WORDS = 208
+/* Changes whenever anything else here does. Tables are kept for one version. */
+#define NQ_VERSION 1
+
+#define NQ_MOST_DESKS 8
+#define NQ_LAST_EVENT 65535 /* the number of the last event that a day can have */
+
+/* A desk's row, or one that a desk has read. On a day for n desks the first n words of a view count;
+ * those past n stay until an opening. */
+struct nq_row {
+    uint32_t word;
+    uint32_t seq;                 /* how often the row has been written */
+    uint32_t view[NQ_MOST_DESKS]; /* the page that its desk found before it last wrote */
+    uint32_t at;                  /* the instant of that page */
 };
 
-/* The kinds of request, here and in day files. */
-enum {
-    NQ_OPEN = 1,  /* opens a day */
-    NQ_ENTRY = 2, /* a desk's call to write its row */
-    NQ_PAGE = 3,  /* a desk's call for a page */
-    NQ_TURN = 4   /* a turn for the call that a desk has under way */
+/* The record of a desk: 208 words without padding, which can be kept and sent as they are. On a day
+ * for n desks the first n rows of a collect count; those past n stay until an opening.
+ *
+ * A page and an entry read rows 1 to n into `first` and then into `second`, over what they read
+ * before; after t turns the next read is number t mod 2n, from 0, of these. */
+struct nq_desk {
+    struct nq_row row;                   /* the desk's own */
+    uint32_t task;                       /* NQ_IDLE to NQ_READY_ENTRY */
+    uint32_t word;                       /* the new word of an entry */
+    uint32_t at;                         /* the instant of the view that a ready entry keeps */
+    uint32_t turns;                      /* the accepted turns since the call */
+    struct nq_row first[NQ_MOST_DESKS];  /* the first collect: the rows as read */
+    struct nq_row second[NQ_MOST_DESKS]; /* the second collect */
+    uint32_t first_ended;                /* the event number of the turn that ended the first */
+    uint32_t kept_view[NQ_MOST_DESKS];   /* the page that a ready entry keeps for its row */
+    uint32_t marks[NQ_MOST_DESKS];       /* of each desk, whether it was seen to write: 0 no, else yes */
+};
+
+/* The tasks of a desk. Those of word, at and turns that a task does not have are ignored. */
+enum nq_task {
+    NQ_IDLE = 0,          /* no call under way */
+    NQ_READING_PAGE = 1,  /* has turns */
+    NQ_READING_ENTRY = 2, /* has word and turns */
+    NQ_READY_ENTRY = 3    /* has word, at and turns; the next turn writes the row */
+};
+
+/* The kinds of request, for nq_step and in day files. */
+enum nq_ask {
+    NQ_ASK_OPEN = 1,  /* opens a day */
+    NQ_ASK_ENTRY = 2, /* a desk's call to write its row */
+    NQ_ASK_PAGE = 3,  /* a desk's call for a page */
+    NQ_ASK_TURN = 4   /* a turn for the call that a desk has under way */
 };
 
 /* What a request is answered. */
-enum {
-    NQ_REFUSED = 0,    /* nothing was done; `refusal` says why */
-    NQ_OPENED = 1,     /* the day is open */
-    NQ_CALLED = 2,     /* the entry or page call is taken */
-    NQ_READ = 3,       /* the turn read a row, and the call needs more turns */
-    NQ_PAGE_SHOWN = 4, /* the turn ended a page: `lender`, `at`, `turns`; its words are in the list */
-    NQ_ROW_WRITTEN = 5 /* the turn wrote the desk's row and ended an entry: `turns` */
+enum nq_answer {
+    NQ_REFUSED = 0, /* nothing was done; `refusal` says why */
+    NQ_OPENED = 1,  /* the day is open */
+    NQ_CALLED = 2,  /* the entry or page call is taken */
+    NQ_READ = 3,    /* the turn read a row, and the call needs more turns */
+    NQ_PAGE = 4,    /* the turn ended a page: `lender`, `at`, `turns`; its words are in the list */
+    NQ_WRITTEN = 5  /* the turn wrote the desk's row and ended an entry: `turns` */
 };
 
 /* Why a request or a day file is refused. The numbers stay as they are; later versions may add some.
@@ -66,17 +104,18 @@ enum {
  * Where several apply, the first in this order is given. A kind that is none: 8. Opening: 10, 1, 6.
  * Call or turn: 10, 6, 11, 2, then 3 or 4, then 5. Day file: 7 if one byte is left, 9 if the length
  * is outside 4 to 8, 7, 8, then 9. */
-enum {
+enum nq_refusal {
     NQ_DESK_COUNT = 1,   /* The desk count asked for is outside 1 to 8. */
     NQ_NO_SUCH_DESK = 2, /* The desk number is outside 1 to n. */
     NQ_DESK_BUSY = 3,    /* The desk that calls has a call under way. */
     NQ_DESK_IDLE = 4,    /* The desk that is given a turn has no call under way. */
-    NQ_DAY_FULL = 5,     /* The event number is 65,535, the last one of a day. */
+    NQ_DAY_FULL = 5,     /* The event number is 65,535, the last one of a day. A new day is opened
+                            with count and event 0; calls under way and rows are lost. */
     NQ_LENT_SIZE = 6,    /* The table has not exactly n records (when opening, as many as asked for),
                             or the page list of a turn has fewer than n words. */
-    NQ_CUT_SHORT = 7,    /* The day file ends within a record. */
+    NQ_CUT_SHORT = 7,    /* The day file ends within a request. */
     NQ_UNKNOWN_KIND = 8, /* The kind is none of 1 to 4. */
-    NQ_WRONG_LENGTH = 9, /* The length of a record is outside 4 to 8, or not that of its kind. */
+    NQ_WRONG_LENGTH = 9, /* In a day file, a length outside 4 to 8, or not that of its kind. */
     NQ_OPEN_STATE = 10,  /* A call or a turn on a day that is not open, or an opening of one that is. */
     NQ_CANNOT_ARISE = 11 /* The day cannot have arisen: the desk count is above 8, the event number is
                             above 65,535, or in a record the row's seq or at is above the event number,
@@ -84,90 +123,65 @@ enum {
                             an entry ready to write. */
 };
 
-/* Where the parts of a desk record begin. A row has NQ_ROW_WORDS words, a collect 8 rows, a view 8
- * words, the marks 8; anything else is one word. On a day for n desks the first n rows of a collect,
- * words of a view and marks count; rows and words past n stay until an opening, marks past n become 0
- * with the others. */
-enum {
-    /* in the desk's own row; in a row of a collect, from where that row begins */
-    NQ_ROW_WORD = 0,
-    NQ_ROW_SEQ = 1,  /* how often the row has been written */
-    NQ_ROW_VIEW = 2, /* the page that its desk found before it last wrote */
-    NQ_ROW_AT = 10,  /* the instant of that page */
-
-    NQ_TASK_KIND = 11,    /* one of the tasks below */
-    NQ_TASK_WORD = 12,    /* the new word of an entry */
-    NQ_TASK_AT = 13,      /* the instant of the view that a ready entry keeps */
-    NQ_TASK_TURNS = 14,   /* the accepted turns since the call */
-    NQ_FIRST = 15,        /* the first collect: the rows as read */
-    NQ_SECOND = 103,      /* the second collect */
-    NQ_FIRST_ENDED = 191, /* the number of the turn that ended the first collect */
-    NQ_KEPT_VIEW = 192,   /* the page that a ready entry keeps for its row */
-    NQ_MARKS = 200        /* of each desk, whether it was seen to write: 0 no, anything else yes */
-};
-
-/* The tasks of a desk. Task words that a task does not have are ignored. */
-enum {
-    NQ_IDLE = 0,          /* no call under way */
-    NQ_READING_PAGE = 1,  /* has turns */
-    NQ_READING_ENTRY = 2, /* has word and turns */
-    NQ_READY_ENTRY = 3    /* has word, at and turns; the next turn writes the row */
-};
-
 /* The reply to a request. What an answer does not have is 0. */
 struct nq_reply {
     uint32_t count;   /* the day's desk count after the request */
     uint32_t event;   /* the day's event number after it: the number of the call or turn, if accepted */
-    uint32_t kind;    /* what is answered, NQ_REFUSED to NQ_ROW_WRITTEN */
+    uint32_t answer;  /* NQ_REFUSED to NQ_WRITTEN */
     uint32_t refusal; /* if refused, why */
     uint32_t lender;  /* of a page: the desk from which it was borrowed, 0 if from none */
-    uint32_t at;      /* of a page: its instant, which is right after the event of this number */
+    uint32_t at;      /* of a page: its instant, which is right after the event of this number, later
+                         than the page's call and earlier than its answer */
     uint32_t turns;   /* of a page or an entry: its accepted turns, at most 2n*n, or 2n*n + 1 */
-};
-
-/* What stands at a place of a day file: a record, the end (everything is 0), or a refusal. */
-struct nq_record {
-    uint32_t refusal; /* 7, 8 or 9, the rest being 0: the file ends here */
-    uint32_t kind;    /* the kind of request */
-    uint32_t desk;    /* the desk; for an opening, the desk count asked for */
-    uint32_t word;    /* the new word of an entry, else 0 */
-    uint32_t next;    /* how many bytes the record takes */
 };
 
 /* Requests. `count` and `event` are the day before.
  *
  * On a refusal the reply has the same day, and table and page list are as they were. An accepted
  * opening sets every word of every record to 0. An accepted call or turn adds 1 to the event number
- * and writes the record of its desk, no other; there, task words that the task does not have become
- * 0, and marks 0 or 1. Only a turn looks at a page list, and only one that is answered NQ_PAGE_SHOWN
- * writes it: its first n words become those that stood in rows 1 to n at instant `at`. */
+ * and writes the record of its desk, no other; there, those of word, at and turns that the task does
+ * not have become 0, and marks 0 or 1. A call, and the turn that ends one, also set to 0 all marks,
+ * `first_ended`, and as far as they count the collects and `kept_view`. Only a turn looks at a page
+ * list, and only one that is answered NQ_PAGE writes it: its first n words become those that stood in
+ * rows 1 to n at instant `at`. */
 
 /* Opens a day for that many desks. The table has that many records. */
-struct nq_reply nq_open(uint32_t count, uint32_t event, uint32_t (*table)[NQ_RECORD_WORDS],
-                        size_t records, uint32_t desks);
+struct nq_reply nq_open(uint32_t count, uint32_t event, struct nq_desk *table, size_t records,
+                        uint32_t desks);
 
 /* An entry call of a desk: its turns will write the word to its row. */
-struct nq_reply nq_entry(uint32_t count, uint32_t event, uint32_t (*table)[NQ_RECORD_WORDS],
-                         size_t records, uint32_t desk, uint32_t word);
+struct nq_reply nq_entry(uint32_t count, uint32_t event, struct nq_desk *table, size_t records,
+                         uint32_t desk, uint32_t word);
 
 /* A page call of a desk: its turns will read all rows. */
-struct nq_reply nq_page(uint32_t count, uint32_t event, uint32_t (*table)[NQ_RECORD_WORDS],
-                        size_t records, uint32_t desk);
+struct nq_reply nq_page(uint32_t count, uint32_t event, struct nq_desk *table, size_t records,
+                        uint32_t desk);
 
 /* A turn for the call that a desk has under way. */
-struct nq_reply nq_turn(uint32_t count, uint32_t event, uint32_t (*table)[NQ_RECORD_WORDS],
-                        size_t records, uint32_t desk, uint32_t *page, size_t words);
+struct nq_reply nq_turn(uint32_t count, uint32_t event, struct nq_desk *table, size_t records,
+                        uint32_t desk, uint32_t *page, size_t words);
 
 /* Any of these by its kind. An opening takes the desk count asked for as `desk`, only an entry call
  * uses `word`, and only a turn the page list. A kind that is none of 1 to 4 is refused (8). */
-struct nq_reply nq_step(uint32_t count, uint32_t event, uint32_t (*table)[NQ_RECORD_WORDS],
-                        size_t records, uint32_t kind, uint32_t desk, uint32_t word, uint32_t *page,
-                        size_t words);
+struct nq_reply nq_step(uint32_t count, uint32_t event, struct nq_desk *table, size_t records,
+                        uint32_t kind, uint32_t desk, uint32_t word, uint32_t *page, size_t words);
 
-/* Reads the record of a day file that begins at `bytes`, where `length` bytes are left. A record is a
+/* What stands at a place of a day file: a request, the end (everything is 0), or a refusal. */
+struct nq_request {
+    uint32_t refusal; /* 7, 8 or 9, the rest being 0: the file ends here */
+    uint32_t kind;    /* NQ_ASK_OPEN to NQ_ASK_TURN */
+    uint32_t desk;    /* the desk; for an opening, the desk count asked for */
+    uint32_t word;    /* the new word of an entry, else 0 */
+    uint32_t next;    /* how many bytes the request takes in the file */
+};
+
+/* Reads the request that begins at `bytes` in a day file, where `length` bytes are left. It is a
  * length, which counts the bytes after itself, a kind, a desk and, for an entry, a word; the word has
  * 32 bits, anything else 16, all little-endian. */
-struct nq_record nq_read(const uint8_t *bytes, size_t length);
+struct nq_request nq_read(const uint8_t *bytes, size_t length);
+
+/* The version of the library. */
+uint32_t nq_version(void);
 
 #ifdef __cplusplus
 }

@@ -1,6 +1,6 @@
 /* Holds nelvaquist.h to what the library does. Days are driven through it, every request in both
- * ways, by its kind and by its own function, and the words that it leaves are compared with those
- * that are wanted, which are put by the names of the header and worked out by hand.
+ * ways, by its kind and by its own function, and what it leaves is compared in every word with what
+ * is wanted, which is put by the names of the header and worked out by hand.
  *
  *     cc -std=c99 -Wall -Wextra -pedantic -o test bindings/c/test.c target/staticlib/libnq.a */
 #include <stdio.h>
@@ -9,6 +9,7 @@
 
 #include "nelvaquist.h"
 
+#define RECORD_WORDS 208
 #define ROOM 10    /* more records and page words than any day has; those that are not lent stay */
 #define NO_WORD 77 /* the word of a request that has none */
 
@@ -17,13 +18,29 @@
 struct state {
     uint32_t count, event;   /* the day */
     uint32_t records, words; /* how much of the table and of the page list is lent */
-    uint32_t table[ROOM][NQ_RECORD_WORDS];
+    struct nq_desk table[ROOM];
     uint32_t page[ROOM];
 };
 
-static struct state now;      /* what the requests have left */
-static struct state wanted;   /* what they should have left */
-static struct nq_reply reply; /* to the last request */
+static struct state now;    /* what the requests have left */
+static struct state wanted; /* what they should have left */
+
+/* Answers that have nothing more. */
+static const struct nq_reply opened = {.answer = NQ_OPENED};
+static const struct nq_reply called = {.answer = NQ_CALLED};
+static const struct nq_reply row_read = {.answer = NQ_READ};
+
+/* The answer of the turn that ends a page. */
+static struct nq_reply page(uint32_t lender, uint32_t at, uint32_t turns)
+{
+    return (struct nq_reply){.answer = NQ_PAGE, .lender = lender, .at = at, .turns = turns};
+}
+
+/* The answer of the turn that ends an entry. */
+static struct nq_reply written(uint32_t turns)
+{
+    return (struct nq_reply){.answer = NQ_WRITTEN, .turns = turns};
+}
 
 /* Ends the test if something does not hold. */
 static void check(int holds, const char *what, int line)
@@ -43,15 +60,16 @@ static int same(const struct state *one, const struct state *other)
 /* A blank day, with so many records and page words lent, whatever stands in them. */
 static void lend(uint32_t records, uint32_t words, uint32_t rubbish)
 {
-    uint32_t i, j;
+    uint32_t i, record[RECORD_WORDS];
 
     memset(&now, 0, sizeof now);
     now.records = records;
     now.words = words;
+    for (i = 0; i < RECORD_WORDS; i++)
+        record[i] = rubbish;
     for (i = 0; i < ROOM; i++) {
+        memcpy(&now.table[i], record, sizeof record);
         now.page[i] = rubbish;
-        for (j = 0; j < NQ_RECORD_WORDS; j++)
-            now.table[i][j] = rubbish;
     }
 }
 
@@ -65,53 +83,47 @@ static struct nq_reply step(struct state *s, uint32_t kind, uint32_t desk, uint3
 static struct nq_reply named(struct state *s, uint32_t kind, uint32_t desk, uint32_t word)
 {
     switch (kind) {
-    case NQ_OPEN:
+    case NQ_ASK_OPEN:
         return nq_open(s->count, s->event, s->table, s->records, desk);
-    case NQ_ENTRY:
+    case NQ_ASK_ENTRY:
         return nq_entry(s->count, s->event, s->table, s->records, desk, word);
-    case NQ_PAGE:
+    case NQ_ASK_PAGE:
         return nq_page(s->count, s->event, s->table, s->records, desk);
-    case NQ_TURN:
+    case NQ_ASK_TURN:
         return nq_turn(s->count, s->event, s->table, s->records, desk, s->page, s->words);
     default:
         return step(s, kind, desk, word);
     }
 }
 
-/* Makes a request. Whether it is answered so, alike in both ways. */
-static int answers(uint32_t answer, uint32_t kind, uint32_t desk, uint32_t word)
+/* Makes a request. Whether it is answered so, beside its day, and alike in both ways. */
+static int answers(struct nq_reply answer, uint32_t kind, uint32_t desk, uint32_t word)
 {
     struct state other = now;
     struct nq_reply by_kind = step(&other, kind, desk, word);
+    struct nq_reply by_name = named(&now, kind, desk, word);
 
-    reply = named(&now, kind, desk, word);
-    if (memcmp(&reply, &by_kind, sizeof reply) != 0 || !same(&now, &other))
+    if (memcmp(&by_kind, &by_name, sizeof by_kind) != 0 || !same(&now, &other))
         return 0;
-    now.count = reply.count;
-    now.event = reply.event;
-    return reply.kind == answer;
-}
-
-/* Whether this is what the reply has beside its day and its kind. */
-static int has(uint32_t refusal, uint32_t lender, uint32_t at, uint32_t turns)
-{
-    return reply.refusal == refusal && reply.lender == lender && reply.at == at &&
-           reply.turns == turns;
+    now.count = answer.count = by_name.count;
+    now.event = answer.event = by_name.event;
+    return memcmp(&by_name, &answer, sizeof answer) == 0;
 }
 
 /* Whether a request is refused with this number and changes nothing. */
 static int refuses(uint32_t refusal, uint32_t kind, uint32_t desk)
 {
+    struct nq_reply refused = {.answer = NQ_REFUSED, .refusal = refusal};
     struct state before = now;
 
-    return answers(NQ_REFUSED, kind, desk, NO_WORD) && has(refusal, 0, 0, 0) && same(&now, &before);
+    return answers(refused, kind, desk, NO_WORD) && same(&now, &before);
 }
 
 /* Whether any call or turn of a desk is refused with this number. */
 static int refuses_all(uint32_t refusal, uint32_t desk)
 {
-    return refuses(refusal, NQ_ENTRY, desk) && refuses(refusal, NQ_PAGE, desk) &&
-           refuses(refusal, NQ_TURN, desk);
+    return refuses(refusal, NQ_ASK_ENTRY, desk) && refuses(refusal, NQ_ASK_PAGE, desk) &&
+           refuses(refusal, NQ_ASK_TURN, desk);
 }
 
 /* Whether a day opens, with every word of its records 0. */
@@ -121,75 +133,89 @@ static int opens(uint32_t desks)
     wanted.count = desks;
     wanted.event = 0;
     memset(wanted.table, 0, desks * sizeof wanted.table[0]);
-    return answers(NQ_OPENED, NQ_OPEN, desks, NO_WORD) && has(0, 0, 0, 0) && same(&now, &wanted);
+    return answers(opened, NQ_ASK_OPEN, desks, NO_WORD) && same(&now, &wanted);
 }
 
 /* Whether a call or a turn is answered so and leaves what is wanted. */
-static int leaves(uint32_t answer, uint32_t kind, uint32_t desk, uint32_t word)
+static int leaves(struct nq_reply answer, uint32_t kind, uint32_t desk, uint32_t word)
 {
     wanted.event++;
     return answers(answer, kind, desk, word) && same(&now, &wanted);
 }
 
-/* Whether a turn reads a row and leaves what is wanted. */
+/* Puts a row in the place of another, as far as it counts. */
+static void put(struct nq_row *place, const struct nq_row *row)
+{
+    place->word = row->word;
+    place->seq = row->seq;
+    memcpy(place->view, row->view, wanted.count * sizeof row->view[0]);
+    place->at = row->at;
+}
+
+/* Whether a turn reads the row that is next and leaves what is wanted. */
 static int reads(uint32_t desk)
 {
-    return leaves(NQ_READ, NQ_TURN, desk, NO_WORD) && has(0, 0, 0, 0);
+    struct nq_desk *own = &wanted.table[desk - 1];
+    uint32_t n = wanted.count, next = own->turns++ % (2 * n);
+
+    put(next < n ? &own->first[next] : &own->second[next - n], &wanted.table[next % n].row);
+    if (next == n - 1)
+        own->first_ended = wanted.event + 1;
+    return leaves(row_read, NQ_ASK_TURN, desk, NO_WORD);
 }
 
 /* Whether so many turns of a desk read rows. */
-static int reads_on(uint32_t desk, uint32_t count)
+static int reads_on(uint32_t desk, uint32_t turns)
 {
-    uint32_t i;
-
-    for (i = 0; i < count; i++)
-        if (!answers(NQ_READ, NQ_TURN, desk, NO_WORD))
-            return 0;
-    return 1;
+    while (turns > 0 && answers(row_read, NQ_ASK_TURN, desk, NO_WORD))
+        turns--;
+    return turns == 0;
 }
 
 /* Whether an entry is called and written, with no turn of another desk between. */
 static int enters(uint32_t desk, uint32_t word)
 {
     wanted.event += 2 * now.count + 2;
-    return answers(NQ_CALLED, NQ_ENTRY, desk, word) && reads_on(desk, 2 * now.count) &&
-           answers(NQ_ROW_WRITTEN, NQ_TURN, desk, NO_WORD) && has(0, 0, 0, 2 * now.count + 1);
+    return answers(called, NQ_ASK_ENTRY, desk, word) && reads_on(desk, 2 * now.count) &&
+           answers(written(2 * now.count + 1), NQ_ASK_TURN, desk, NO_WORD);
 }
 
-/* Puts a row, with two words of its view, in a record or a collect. */
-static void put(uint32_t *row, uint32_t word, uint32_t seq, uint32_t view_1, uint32_t view_2,
-                uint32_t at)
+/* Makes a desk idle: whatever counts but its row is 0. */
+static void make_idle(struct nq_desk *own)
 {
-    row[NQ_ROW_WORD] = word;
-    row[NQ_ROW_SEQ] = seq;
-    row[NQ_ROW_VIEW] = view_1;
-    row[NQ_ROW_VIEW + 1] = view_2;
-    row[NQ_ROW_AT] = at;
-}
+    static const struct nq_row none;
+    uint32_t i;
 
-/* Puts a task in a record. */
-static void put_task(uint32_t *own, uint32_t kind, uint32_t word, uint32_t at, uint32_t turns)
-{
-    own[NQ_TASK_KIND] = kind;
-    own[NQ_TASK_WORD] = word;
-    own[NQ_TASK_AT] = at;
-    own[NQ_TASK_TURNS] = turns;
-}
-
-/* Makes a desk idle, on a day for two desks: what counts of its collects, view and marks is 0. */
-static void put_idle(uint32_t *own)
-{
-    int i;
-
-    put_task(own, NQ_IDLE, 0, 0, 0);
-    for (i = 0; i < 2; i++) {
-        put(own + NQ_FIRST + i * NQ_ROW_WORDS, 0, 0, 0, 0, 0);
-        put(own + NQ_SECOND + i * NQ_ROW_WORDS, 0, 0, 0, 0, 0);
-        own[NQ_KEPT_VIEW + i] = 0;
+    own->task = NQ_IDLE;
+    own->word = own->at = own->turns = own->first_ended = 0;
+    for (i = 0; i < wanted.count; i++) {
+        put(&own->first[i], &none);
+        put(&own->second[i], &none);
+        own->kept_view[i] = 0;
     }
-    own[NQ_FIRST_ENDED] = 0;
-    for (i = 0; i < NQ_MOST_DESKS; i++)
-        own[NQ_MARKS + i] = 0;
+    memset(own->marks, 0, sizeof own->marks);
+}
+
+/* Every field is of words and has its place among them, and nothing is padded. */
+static void places(void)
+{
+    struct nq_desk desk;
+    struct nq_reply reply;
+    struct nq_request request;
+    const uint32_t *word = &desk.row.word;
+
+    CHECK(&desk.row.seq == word + 1 && desk.row.view == word + 2 && &desk.row.at == word + 10);
+    CHECK(&desk.task == word + 11 && &desk.word == word + 12 && &desk.at == word + 13);
+    CHECK(&desk.turns == word + 14 && &desk.first[0].word == word + 15);
+    CHECK(&desk.second[0].word == word + 103 && &desk.first_ended == word + 191);
+    CHECK(desk.kept_view == word + 192 && desk.marks == word + 200);
+    word = &reply.count;
+    CHECK(&reply.event == word + 1 && &reply.answer == word + 2 && &reply.refusal == word + 3);
+    CHECK(&reply.lender == word + 4 && &reply.at == word + 5 && &reply.turns == word + 6);
+    word = &request.refusal;
+    CHECK(&request.kind == word + 1 && &request.desk == word + 2);
+    CHECK(&request.word == word + 3 && &request.next == word + 4);
+    CHECK(sizeof desk == 4 * RECORD_WORDS && sizeof reply == 4 * 7 && sizeof request == 4 * 5);
 }
 
 /* Opens a day for two desks. Events 1 to 18: desks 1, 2 and 1 again write their rows. */
@@ -198,90 +224,55 @@ static void entries(void)
     lend(2, 3, 99);
     now.event = 70000;
     CHECK(opens(2));
-    put(wanted.table[0], 11, 1, 0, 0, 3);
+    wanted.table[0].row = (struct nq_row){.word = 11, .seq = 1, .view = {0, 0}, .at = 3};
     CHECK(enters(1, 11) && same(&now, &wanted));
-    put(wanted.table[1], 22, 1, 11, 0, 9);
+    wanted.table[1].row = (struct nq_row){.word = 22, .seq = 1, .view = {11, 0}, .at = 9};
     CHECK(enters(2, 22) && same(&now, &wanted));
-    put(wanted.table[0], 13, 2, 11, 22, 15);
+    wanted.table[0].row = (struct nq_row){.word = 13, .seq = 2, .view = {11, 22}, .at = 15};
     CHECK(enters(1, 13) && same(&now, &wanted));
 }
 
 /* Events 19 to 24 of that day: an entry of desk 2, turn by turn. */
 static void entry_by_turns(void)
 {
-    uint32_t *own = wanted.table[1];
+    struct nq_desk *own = &wanted.table[1];
 
-    put_task(own, NQ_READING_ENTRY, 24, 0, 0);
-    CHECK(leaves(NQ_CALLED, NQ_ENTRY, 2, 24) && has(0, 0, 0, 0));
-    put_task(own, NQ_READING_ENTRY, 24, 0, 1);
-    put(own + NQ_FIRST, 13, 2, 11, 22, 15);
+    own->task = NQ_READING_ENTRY;
+    own->word = 24;
+    CHECK(leaves(called, NQ_ASK_ENTRY, 2, 24) && reads(2) && reads(2) && reads(2));
+    own->task = NQ_READY_ENTRY;
+    own->at = 21;
+    own->kept_view[0] = 13;
+    own->kept_view[1] = 22;
     CHECK(reads(2));
-    put_task(own, NQ_READING_ENTRY, 24, 0, 2);
-    put(own + NQ_FIRST + NQ_ROW_WORDS, 22, 1, 11, 0, 9);
-    own[NQ_FIRST_ENDED] = 21;
-    CHECK(reads(2));
-    put_task(own, NQ_READING_ENTRY, 24, 0, 3);
-    put(own + NQ_SECOND, 13, 2, 11, 22, 15);
-    CHECK(reads(2));
-    put_task(own, NQ_READY_ENTRY, 24, 21, 4);
-    put(own + NQ_SECOND + NQ_ROW_WORDS, 22, 1, 11, 0, 9);
-    own[NQ_KEPT_VIEW] = 13;
-    own[NQ_KEPT_VIEW + 1] = 22;
-    CHECK(reads(2));
-    put_idle(own);
-    put(own, 24, 2, 13, 22, 21);
-    CHECK(leaves(NQ_ROW_WRITTEN, NQ_TURN, 2, NO_WORD) && has(0, 0, 0, 5));
+    make_idle(own);
+    own->row = (struct nq_row){.word = 24, .seq = 2, .view = {13, 22}, .at = 21};
+    CHECK(leaves(written(5), NQ_ASK_TURN, 2, NO_WORD));
 }
 
-/* Events 25 to 35: the first double collect of a page of desk 1, in which desk 2 writes. */
-static void marked(void)
-{
-    uint32_t *own = wanted.table[0];
-
-    put_task(own, NQ_READING_PAGE, 0, 0, 0);
-    CHECK(leaves(NQ_CALLED, NQ_PAGE, 1, NO_WORD) && has(0, 0, 0, 0));
-    put_task(own, NQ_READING_PAGE, 0, 0, 1);
-    put(own + NQ_FIRST, 13, 2, 11, 22, 15);
-    CHECK(reads(1));
-    put_task(own, NQ_READING_PAGE, 0, 0, 2);
-    put(own + NQ_FIRST + NQ_ROW_WORDS, 24, 2, 13, 22, 21);
-    own[NQ_FIRST_ENDED] = 27;
-    CHECK(reads(1));
-    put(wanted.table[1], 26, 3, 13, 24, 30);
-    CHECK(enters(2, 26) && same(&now, &wanted));
-    put_task(own, NQ_READING_PAGE, 0, 0, 3);
-    put(own + NQ_SECOND, 13, 2, 11, 22, 15);
-    CHECK(reads(1));
-    put_task(own, NQ_READING_PAGE, 0, 0, 4);
-    put(own + NQ_SECOND + NQ_ROW_WORDS, 26, 3, 13, 24, 30);
-    own[NQ_MARKS + 1] = 1;
-    CHECK(reads(1));
-}
-
-/* Events 36 to 50: desk 2 writes in the second too, and lends its view; then it reads a page. */
+/* Events 25 to 50: a page of desk 1, which desk 2 lends its view, as it writes in both double
+ * collects; then a page of desk 2. */
 static void pages(void)
 {
-    uint32_t *own = wanted.table[0];
+    struct nq_desk *own = &wanted.table[0], *other = &wanted.table[1];
 
-    put_task(own, NQ_READING_PAGE, 0, 0, 5);
-    CHECK(reads(1));
-    put_task(own, NQ_READING_PAGE, 0, 0, 6);
-    put(own + NQ_FIRST + NQ_ROW_WORDS, 26, 3, 13, 24, 30);
-    own[NQ_FIRST_ENDED] = 37;
-    CHECK(reads(1));
-    put(wanted.table[1], 28, 4, 13, 26, 40);
-    CHECK(enters(2, 28) && same(&now, &wanted));
-    put_task(own, NQ_READING_PAGE, 0, 0, 7);
-    CHECK(reads(1));
-    put_idle(own);
+    own->task = NQ_READING_PAGE;
+    CHECK(leaves(called, NQ_ASK_PAGE, 1, NO_WORD) && reads(1) && reads(1));
+    other->row = (struct nq_row){.word = 26, .seq = 3, .view = {13, 24}, .at = 30};
+    CHECK(enters(2, 26) && reads(1));
+    own->marks[1] = 1;
+    CHECK(reads(1) && reads(1) && reads(1));
+    other->row = (struct nq_row){.word = 28, .seq = 4, .view = {13, 26}, .at = 40};
+    CHECK(enters(2, 28) && reads(1));
+    make_idle(own);
     wanted.page[0] = 13;
     wanted.page[1] = 26;
-    CHECK(leaves(NQ_PAGE_SHOWN, NQ_TURN, 1, NO_WORD) && has(0, 2, 40, 8));
+    CHECK(leaves(page(2, 40, 8), NQ_ASK_TURN, 1, NO_WORD));
 
-    CHECK(answers(NQ_CALLED, NQ_PAGE, 2, NO_WORD) && reads_on(2, 3));
+    CHECK(answers(called, NQ_ASK_PAGE, 2, NO_WORD) && reads_on(2, 3));
     wanted.event += 4;
     wanted.page[1] = 28;
-    CHECK(leaves(NQ_PAGE_SHOWN, NQ_TURN, 2, NO_WORD) && has(0, 0, 48, 4));
+    CHECK(leaves(page(0, 48, 4), NQ_ASK_TURN, 2, NO_WORD));
 }
 
 /* A day for two desks on records full of 3s: desk 1 is idle, desk 2 ready to write its row. */
@@ -290,103 +281,108 @@ static void two_desks(uint32_t event)
     lend(2, 2, 3);
     now.count = 2;
     now.event = event;
-    put_task(now.table[0], NQ_IDLE, 3, 3, 99);
-    put_task(now.table[1], NQ_READY_ENTRY, 3, 3, 3);
+    now.table[0].task = NQ_IDLE;
+    now.table[0].turns = 99;
+    now.table[1].task = NQ_READY_ENTRY;
 }
 
-/* Words that do not count: task words that a task does not have become 0 and marks 0 or 1, but rows
- * and words past n stay. */
-static void words_that_do_not_count(void)
+/* What does not count: task words that a task does not have become 0 and marks 0 or 1, but rows and
+ * words past n stay. */
+static void what_does_not_count(void)
 {
-    uint32_t *own = wanted.table[0];
+    struct nq_desk *own = &wanted.table[0];
     int i;
 
     two_desks(9);
     wanted = now;
-    put_idle(own);
-    put_task(own, NQ_READING_PAGE, 0, 0, 0);
-    CHECK(leaves(NQ_CALLED, NQ_PAGE, 1, NO_WORD) && has(0, 0, 0, 0));
+    make_idle(own);
+    own->task = NQ_READING_PAGE;
+    CHECK(leaves(called, NQ_ASK_PAGE, 1, NO_WORD));
 
     two_desks(9);
-    put_task(now.table[0], NQ_READING_PAGE, 3, 3, 2);
-    now.table[1][NQ_ROW_SEQ] = 2;
+    now.table[0].task = NQ_READING_PAGE;
+    now.table[0].turns = 2;
+    now.table[0].row.view[2] = 4;
+    now.table[1].row.seq = 2;
     wanted = now;
-    put_task(own, NQ_READING_PAGE, 0, 0, 3);
+    own->word = own->at = 0;
     for (i = 0; i < NQ_MOST_DESKS; i++)
-        own[NQ_MARKS + i] = 1;
+        own->marks[i] = 1;
     CHECK(reads(1));
-    put_idle(own);
-    CHECK(leaves(NQ_PAGE_SHOWN, NQ_TURN, 1, NO_WORD) && has(0, 2, 3, 4));
-    put_idle(wanted.table[1]);
-    wanted.table[1][NQ_ROW_SEQ] = 3;
-    CHECK(leaves(NQ_ROW_WRITTEN, NQ_TURN, 2, NO_WORD) && has(0, 0, 0, 4));
+    make_idle(own);
+    CHECK(leaves(page(2, 3, 4), NQ_ASK_TURN, 1, NO_WORD));
+    make_idle(&wanted.table[1]);
+    wanted.table[1].row.seq = 3;
+    CHECK(leaves(written(4), NQ_ASK_TURN, 2, NO_WORD));
 }
 
 /* As many desks as there can be: every row of a collect, word of a view and mark has its place. */
 static void most_desks(void)
 {
-    const uint32_t *own = now.table[0];
+    const struct nq_desk *own = &now.table[0];
     uint32_t i;
 
     lend(NQ_MOST_DESKS, NQ_MOST_DESKS, 0);
     CHECK(opens(NQ_MOST_DESKS));
     for (i = 0; i < NQ_MOST_DESKS; i++)
         CHECK(enters(i + 1, 10 + i));
-    CHECK(answers(NQ_CALLED, NQ_ENTRY, 1, 10) && reads_on(1, 2 * NQ_MOST_DESKS));
-    for (i = 0; i < NQ_MOST_DESKS; i++) {
-        CHECK(own[NQ_FIRST + i * NQ_ROW_WORDS + NQ_ROW_WORD] == 10 + i);
-        CHECK(own[NQ_SECOND + i * NQ_ROW_WORDS + NQ_ROW_WORD] == 10 + i);
-        CHECK(own[NQ_KEPT_VIEW + i] == 10 + i);
-    }
-    CHECK(answers(NQ_ROW_WRITTEN, NQ_TURN, 1, NO_WORD));
+    CHECK(answers(called, NQ_ASK_ENTRY, 1, 10) && reads_on(1, 2 * NQ_MOST_DESKS));
     for (i = 0; i < NQ_MOST_DESKS; i++)
-        CHECK(own[NQ_ROW_VIEW + i] == 10 + i);
+        CHECK(own->first[i].word == 10 + i && own->second[i].word == 10 + i &&
+              own->kept_view[i] == 10 + i);
+    CHECK(answers(written(17), NQ_ASK_TURN, 1, NO_WORD));
+    for (i = 0; i < NQ_MOST_DESKS; i++)
+        CHECK(own->row.view[i] == 10 + i);
 
-    CHECK(answers(NQ_CALLED, NQ_PAGE, 1, NO_WORD) && reads_on(1, NQ_MOST_DESKS));
+    CHECK(answers(called, NQ_ASK_PAGE, 1, NO_WORD) && reads_on(1, NQ_MOST_DESKS));
     for (i = 1; i < NQ_MOST_DESKS; i++)
         CHECK(enters(i + 1, 20 + i));
     CHECK(reads_on(1, NQ_MOST_DESKS));
     for (i = 0; i < NQ_MOST_DESKS; i++)
-        CHECK(own[NQ_MARKS + i] == (i > 0));
-    CHECK(reads_on(1, 2 * NQ_MOST_DESKS - 1) && answers(NQ_PAGE_SHOWN, NQ_TURN, 1, NO_WORD));
+        CHECK(own->marks[i] == (i > 0));
+    CHECK(reads_on(1, 2 * NQ_MOST_DESKS - 1));
+    CHECK(answers(page(0, 313, 32), NQ_ASK_TURN, 1, NO_WORD));
     for (i = 0; i < NQ_MOST_DESKS; i++)
         CHECK(now.page[i] == (i > 0 ? 20 : 10) + i);
 }
 
-/* A day grows to its last event and no further. */
+/* A day grows to its last event and no further; then a new one is opened. */
 static void last_event(void)
 {
     lend(1, 1, 0);
     CHECK(opens(1));
-    while (answers(NQ_CALLED, NQ_PAGE, 1, NO_WORD))
-        CHECK(reads_on(1, 1) && answers(NQ_PAGE_SHOWN, NQ_TURN, 1, NO_WORD));
+    while (answers(called, NQ_ASK_PAGE, 1, NO_WORD))
+        CHECK(reads_on(1, 1) && answers(page(0, now.event, 2), NQ_ASK_TURN, 1, NO_WORD));
     CHECK(now.event == NQ_LAST_EVENT);
-    CHECK(refuses(NQ_DAY_FULL, NQ_PAGE, 1));
+    CHECK(refuses(NQ_DAY_FULL, NQ_ASK_PAGE, 1));
+    now.count = now.event = 0;
+    CHECK(opens(1));
 }
 
 /* Openings: each refusal, where those after it in the order have their causes too. */
 static void openings_refused(void)
 {
     lend(2, 0, 99);
-    CHECK(refuses(NQ_LENT_SIZE, NQ_OPEN, 1) && refuses(NQ_LENT_SIZE, NQ_OPEN, 3));
-    CHECK(refuses(NQ_DESK_COUNT, NQ_OPEN, 0) && refuses(NQ_DESK_COUNT, NQ_OPEN, NQ_MOST_DESKS + 1));
+    CHECK(refuses(NQ_LENT_SIZE, NQ_ASK_OPEN, 1) && refuses(NQ_LENT_SIZE, NQ_ASK_OPEN, 3));
+    CHECK(refuses(NQ_DESK_COUNT, NQ_ASK_OPEN, 0));
+    CHECK(refuses(NQ_DESK_COUNT, NQ_ASK_OPEN, NQ_MOST_DESKS + 1));
     now.count = 2;
-    CHECK(refuses(NQ_OPEN_STATE, NQ_OPEN, 0) && refuses(NQ_OPEN_STATE, NQ_OPEN, 2));
+    CHECK(refuses(NQ_OPEN_STATE, NQ_ASK_OPEN, 0) && refuses(NQ_OPEN_STATE, NQ_ASK_OPEN, 2));
 }
 
 /* Calls and turns: each refusal, where those after it in the order have their causes too. */
 static void calls_and_turns_refused(void)
 {
     two_desks(NQ_LAST_EVENT);
-    CHECK(refuses(NQ_DAY_FULL, NQ_ENTRY, 1) && refuses(NQ_DAY_FULL, NQ_PAGE, 1));
-    CHECK(refuses(NQ_DAY_FULL, NQ_TURN, 2));
-    CHECK(refuses(NQ_DESK_BUSY, NQ_ENTRY, 2) && refuses(NQ_DESK_BUSY, NQ_PAGE, 2));
-    CHECK(refuses(NQ_DESK_IDLE, NQ_TURN, 1));
+    CHECK(refuses(NQ_DAY_FULL, NQ_ASK_ENTRY, 1) && refuses(NQ_DAY_FULL, NQ_ASK_PAGE, 1));
+    CHECK(refuses(NQ_DAY_FULL, NQ_ASK_TURN, 2));
+    CHECK(refuses(NQ_DESK_BUSY, NQ_ASK_ENTRY, 2) && refuses(NQ_DESK_BUSY, NQ_ASK_PAGE, 2));
+    CHECK(refuses(NQ_DESK_IDLE, NQ_ASK_TURN, 1));
     CHECK(refuses_all(NQ_NO_SUCH_DESK, 0) && refuses_all(NQ_NO_SUCH_DESK, 3));
     now.event = NQ_LAST_EVENT + 1;
     CHECK(refuses_all(NQ_CANNOT_ARISE, 0) && refuses_all(NQ_CANNOT_ARISE, 1));
     now.words = 1;
-    CHECK(refuses(NQ_LENT_SIZE, NQ_TURN, 2) && refuses(NQ_CANNOT_ARISE, NQ_PAGE, 2));
+    CHECK(refuses(NQ_LENT_SIZE, NQ_ASK_TURN, 2) && refuses(NQ_CANNOT_ARISE, NQ_ASK_PAGE, 2));
     now.words = 2;
     now.records = 1;
     CHECK(refuses_all(NQ_LENT_SIZE, 1));
@@ -394,7 +390,7 @@ static void calls_and_turns_refused(void)
     CHECK(refuses_all(NQ_LENT_SIZE, 1));
     now.count = 0;
     CHECK(refuses_all(NQ_OPEN_STATE, 1));
-    CHECK(refuses(NQ_UNKNOWN_KIND, 0, 1) && refuses(NQ_UNKNOWN_KIND, NQ_TURN + 1, 1));
+    CHECK(refuses(NQ_UNKNOWN_KIND, 0, 1) && refuses(NQ_UNKNOWN_KIND, NQ_ASK_TURN + 1, 1));
 
     lend(NQ_MOST_DESKS + 1, NQ_MOST_DESKS + 1, 3);
     now.count = NQ_MOST_DESKS + 1;
@@ -402,19 +398,19 @@ static void calls_and_turns_refused(void)
     CHECK(refuses_all(NQ_CANNOT_ARISE, 1));
 }
 
-/* Whether a word of a record of two is refused above this number, but not by an opening, which does
+/* Whether a word of desk 2's record is refused above this number, but not by an opening, which does
  * not look at it. */
-static int refuses_above(uint32_t most, uint32_t place, uint32_t kind)
+static int refuses_above(uint32_t most, uint32_t *word, uint32_t task)
 {
     two_desks(5);
-    now.table[1][NQ_TASK_KIND] = kind;
-    now.table[1][place] = most + 1;
+    now.table[1].task = task;
+    *word = most + 1;
     if (!refuses_all(NQ_CANNOT_ARISE, 1) || !refuses_all(NQ_CANNOT_ARISE, 3))
         return 0;
-    now.table[1][place] = most;
-    if (!answers(NQ_CALLED, NQ_PAGE, 1, NO_WORD))
+    *word = most;
+    if (!answers(called, NQ_ASK_PAGE, 1, NO_WORD))
         return 0;
-    now.table[1][place] = most + 1;
+    *word = most + 1;
     now.count = 0;
     return opens(2);
 }
@@ -422,31 +418,33 @@ static int refuses_above(uint32_t most, uint32_t place, uint32_t kind)
 /* Records that cannot arise, each by one cause. */
 static void records_refused(void)
 {
-    CHECK(refuses_above(5, NQ_ROW_SEQ, NQ_IDLE));
-    CHECK(refuses_above(5, NQ_ROW_AT, NQ_IDLE));
-    CHECK(refuses_above(7, NQ_TASK_TURNS, NQ_READING_PAGE));
-    CHECK(refuses_above(7, NQ_TASK_TURNS, NQ_READING_ENTRY));
-    CHECK(refuses_above(8, NQ_TASK_TURNS, NQ_READY_ENTRY));
-    CHECK(refuses_above(NQ_READY_ENTRY, NQ_TASK_KIND, NQ_IDLE));
+    struct nq_desk *other = &now.table[1];
+
+    CHECK(refuses_above(5, &other->row.seq, NQ_IDLE));
+    CHECK(refuses_above(5, &other->row.at, NQ_IDLE));
+    CHECK(refuses_above(7, &other->turns, NQ_READING_PAGE));
+    CHECK(refuses_above(7, &other->turns, NQ_READING_ENTRY));
+    CHECK(refuses_above(8, &other->turns, NQ_READY_ENTRY));
+    CHECK(refuses_above(NQ_READY_ENTRY, &other->task, NQ_IDLE));
 }
 
-/* A day file with a record of each kind, read to its end. */
+/* A day file with a request of each kind, read to its end. */
 static void day_file(void)
 {
     static const uint8_t file[] = {4, 0, 1, 0, 7, 0, 8, 0, 2, 0, 1, 2, 6, 5, 4, 3,
                                    4, 0, 3, 0, 3, 0, 4, 0, 4, 0, 255, 255};
-    static const struct nq_record records[] = {
-        {.kind = NQ_OPEN, .desk = 7, .next = 6},
-        {.kind = NQ_ENTRY, .desk = 0x0201, .word = 0x03040506, .next = 10},
-        {.kind = NQ_PAGE, .desk = 3, .next = 6},
-        {.kind = NQ_TURN, .desk = 65535, .next = 6},
+    static const struct nq_request requests[] = {
+        {.kind = NQ_ASK_OPEN, .desk = 7, .next = 6},
+        {.kind = NQ_ASK_ENTRY, .desk = 0x0201, .word = 0x03040506, .next = 10},
+        {.kind = NQ_ASK_PAGE, .desk = 3, .next = 6},
+        {.kind = NQ_ASK_TURN, .desk = 65535, .next = 6},
         {.kind = 0}};
     size_t i, at = 0;
 
-    for (i = 0; i < sizeof records / sizeof records[0]; i++) {
-        struct nq_record found = nq_read(file + at, sizeof file - at);
+    for (i = 0; i < sizeof requests / sizeof requests[0]; i++) {
+        struct nq_request found = nq_read(file + at, sizeof file - at);
 
-        CHECK(memcmp(&found, &records[i], sizeof found) == 0);
+        CHECK(memcmp(&found, &requests[i], sizeof found) == 0);
         at += found.next;
     }
     CHECK(at == sizeof file);
@@ -455,9 +453,9 @@ static void day_file(void)
 /* Whether a day file of these bytes is refused with this number. */
 static int file_refused(uint32_t refusal, size_t length, const uint8_t *bytes)
 {
-    struct nq_record found = nq_read(bytes, length), refused = {.refusal = refusal};
+    struct nq_request found = nq_read(bytes, length), only = {.refusal = refusal};
 
-    return memcmp(&found, &refused, sizeof found) == 0;
+    return memcmp(&found, &only, sizeof found) == 0;
 }
 
 /* Day files: each refusal, where those after it in the order have their causes too. */
@@ -480,11 +478,12 @@ static void day_files_refused(void)
 
 int main(void)
 {
+    CHECK(nq_version() == NQ_VERSION);
+    places();
     entries();
     entry_by_turns();
-    marked();
     pages();
-    words_that_do_not_count();
+    what_does_not_count();
     most_desks();
     last_event();
     openings_refused();

@@ -1,28 +1,28 @@
 //! Finds the proved library, libnq.a, and has it linked.
 
 use std::env;
-use std::path::{Path, PathBuf};
-use std::process::exit;
+use std::path::Path;
 
 const VARIABLE: &str = "NELVAQUIST_LIB_DIR";
 
 fn main() {
     println!("cargo:rerun-if-changed=build.rs");
     println!("cargo:rerun-if-env-changed={VARIABLE}");
-    let directory = match env::var_os(VARIABLE).filter(|set| !set.is_empty()) {
-        Some(directory) => PathBuf::from(directory),
-        None => Path::new(env!("CARGO_MANIFEST_DIR")).join("../../target/staticlib"),
-    };
-    println!("cargo:rerun-if-changed={}", directory.join("libnq.a").display());
-    let found = directory.canonicalize().ok().filter(|found| found.join("libnq.a").is_file());
-    let Some(found) = found else {
-        eprintln!(
-            "There is no libnq.a in {}: build the library, or set {VARIABLE} to the directory \
-             that has it.",
-            directory.display()
+    let set = env::var_os(VARIABLE).filter(|set| !set.is_empty());
+    // An absolute directory stays as it is when it is joined.
+    let directory = Path::new(env!("CARGO_MANIFEST_DIR"))
+        .join(set.unwrap_or_else(|| "../../target/staticlib".into()));
+    let directory = directory.canonicalize().unwrap_or(directory);
+    let library = directory.join("libnq.a");
+    println!("cargo:rerun-if-changed={}", library.display());
+    if !library.is_file() {
+        // Checking and the manual do without the library, so only the linker stops for it.
+        println!(
+            "cargo:warning=There is no {}, without which nothing can be linked: build the library, \
+             or set {VARIABLE} to the absolute path of the directory that has it.",
+            library.display()
         );
-        exit(1);
-    };
-    println!("cargo:rustc-link-search=native={}", found.display());
+    }
+    println!("cargo:rustc-link-search=native={}", directory.display());
     println!("cargo:rustc-link-lib=static=nq");
 }

@@ -41,22 +41,27 @@ impl Page {
     }
 
     /// The words, that of desk 1's row first, one for each desk of the day.
+    #[must_use]
     pub fn words(&self) -> &[u32] {
         &self.words[..self.desks]
     }
 
     /// The desk from which the page was borrowed, or none if it was read clean.
+    #[must_use]
     pub fn lender(&self) -> Option<u32> {
         (self.lender != 0).then_some(self.lender)
     }
 
     /// The page's instant: the rows held these words after the event of this number, which is later
-    /// than the page's call and earlier than its answer.
+    /// than the page's call and earlier than its answer. On words that were damaged it can be any
+    /// number.
+    #[must_use]
     pub fn at(&self) -> u32 {
         self.at
     }
 
     /// The turns that the page took.
+    #[must_use]
     pub fn turns(&self) -> u32 {
         self.turns
     }

@@ -18,6 +18,7 @@ use std::iter::FusedIterator;
 /// assert_eq!(file.rest(), [4]);
 /// ```
 #[derive(Clone, Debug)]
+#[must_use = "nothing is read before the requests are asked for"]
 pub struct DayFile<'a> {
     rest: &'a [u8],
     ended: bool,
@@ -25,14 +26,15 @@ pub struct DayFile<'a> {
 
 impl<'a> DayFile<'a> {
     /// The day file that these bytes are, or begin with.
-    pub fn new(bytes: &'a [u8]) -> DayFile<'a> {
+    pub const fn new(bytes: &'a [u8]) -> DayFile<'a> {
         DayFile { rest: bytes, ended: false }
     }
 
     /// The bytes from the first record on that was not given: none after a whole file, and those
     /// that could not be read after a refusal. Where a file comes in parts, what
     /// [`CutShort`](Refusal::CutShort) leaves here goes before the next part.
-    pub fn rest(&self) -> &'a [u8] {
+    #[must_use]
+    pub const fn rest(&self) -> &'a [u8] {
         self.rest
     }
 }

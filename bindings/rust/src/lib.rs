@@ -39,24 +39,53 @@
 //! has written after at most 2n² + 1. Every accepted call or turn is an *event*, numbered from 1 on
 //! since the opening, up to 65,535. *Instant t* is the moment after event t.
 //!
+//! # Full days
+//!
+//! After 65,535 events a day is full, and what would be another is refused with
+//! [`DayFull`](Refusal::DayFull). Go on with a new [`Register`]. Calls under way and rows are lost;
+//! what stood in the rows can be entered again.
+//!
+//! ```
+//! # use nelvaquist::{Answer, Record, Refusal, Register};
+//! # let mut words = [0; Record::WORDS];
+//! # words[0] = 7;
+//! # let records = vec![Record::from_words(words), Record::default()];
+//! # let mut register = Register::from_parts(2, 65_535, records);
+//! assert_eq!(register.entry(1, 8), Err(Refusal::DayFull));
+//!
+//! let mut next = Register::new();
+//! next.open(register.desks())?;
+//! for (desk, record) in (1..).zip(register.records()) {
+//!     next.entry(desk, record.word())?;
+//!     while next.turn(desk)? == Answer::Read {}
+//! }
+//! # assert_eq!([7, 0], [next.records()[0].word(), next.records()[1].word()]);
+//! # Ok::<(), Refusal>(())
+//! ```
+//!
 //! # Keeping a day
 //!
 //! All that a register knows is its desk count, its event number and one [`Record`] for each desk.
-//! They are plain words, which can be kept or sent, and taken up by [`Register::from_parts`]. Words
-//! that were damaged are refused or worked on by the rules, but never make the register touch
-//! anything else. Pages are true on a day that grew from an opening and was kept as it was left.
+//! They are plain words, which [`Register::into_parts`] gives to be kept or sent, and
+//! [`Register::from_parts`] takes up. Words that were damaged are refused or worked on by the
+//! rules, but never make the register touch anything else. Pages are true on a day that grew from
+//! an opening and was kept as it was left.
 //!
 //! # The library
 //!
 //! The register is the proved library `libnq.a`, for x86-64 Linux; this crate passes on what it
 //! answers. The build looks for it in the directory that the environment variable
-//! `NELVAQUIST_LIB_DIR` names, else in `../../target/staticlib` as seen from this crate. Nothing
-//! here panics, unless a library of another version is linked.
+//! `NELVAQUIST_LIB_DIR` names, else in `../../target/staticlib` as seen from this crate. The
+//! variable should be an absolute path, as a relative one is seen from this crate too. Where there
+//! is no library, `cargo check` and `cargo doc` go on with a warning, and nothing can be linked.
+//!
+//! A library of another version is lent nothing: whatever would ask it panics. Nothing else here
+//! does.
 
 #![deny(missing_docs, unsafe_code, unsafe_op_in_unsafe_fn)]
 
-#[cfg(not(all(target_arch = "x86_64", target_os = "linux")))]
-compile_error!("libnq.a is for x86-64 Linux");
+#[cfg(not(all(target_arch = "x86_64", target_os = "linux", target_pointer_width = "64")))]
+compile_error!("libnq.a is for x86-64 Linux, with pointers of 64 bits");
 
 mod answer;
 mod dayfile;
@@ -67,11 +96,11 @@ mod register;
 
 pub use answer::{Answer, Page};
 pub use dayfile::DayFile;
-pub use record::Record;
+pub use record::{Record, Task};
 pub use refusal::Refusal;
 pub use register::{Register, Request};
 
-/// The library's reply is none that this crate knows.
+/// The library's version, or a number that it answers, is none that this crate knows.
 fn other_version(what: &str, number: u32) -> ! {
     panic!("libnq.a is of another version than the crate nelvaquist: {what} {number}")
 }

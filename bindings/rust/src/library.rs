@@ -1,16 +1,19 @@
 //! The functions of libnq.a, as safe ones. They judge every number that they are passed, so a lent
-//! slice that is one is all that they ask for.
+//! slice that is one, and a library of this version, are all that they ask for.
 
 #![allow(unsafe_code)]
 
-use crate::Record;
+use crate::{other_version, Record};
+
+/// The version of the library that everything here is written for.
+const VERSION: u32 = 1;
 
 /// What a request was answered, and the day after it.
 #[repr(C)]
 pub(crate) struct Reply {
     pub(crate) desks: u32,
     pub(crate) event: u32,
-    pub(crate) kind: u32,
+    pub(crate) answer: u32,
     pub(crate) refusal: u32,
     pub(crate) lender: u32,
     pub(crate) at: u32,
@@ -28,6 +31,8 @@ pub(crate) struct Reading {
 }
 
 extern "C" {
+    fn nq_version() -> u32;
+
     fn nq_step(
         desks: u32,
         event: u32,
@@ -43,6 +48,16 @@ extern "C" {
     fn nq_read(bytes: *const u8, length: usize) -> Reading;
 }
 
+/// Returns only if the library is of this version. One of another may lay records out otherwise,
+/// and is lent nothing.
+fn see_version() {
+    // SAFETY: in every version the function takes nothing, touches nothing and returns a number.
+    let version = unsafe { nq_version() };
+    if version != VERSION {
+        other_version("version", version);
+    }
+}
+
 /// A request of a kind, by the numbers of day files, for a desk and with a word.
 pub(crate) fn step(
     (desks, event): (u32, u32),
@@ -50,10 +65,12 @@ pub(crate) fn step(
     (kind, desk, word): (u32, u32, u32),
     page: &mut [u32],
 ) -> Reply {
-    // SAFETY: `Record` is laid out as its array of 208 words. Both slices are initialised, aligned
-    // and not null, even if empty, hold as many elements as is said, and, being borrowed mutably,
-    // neither overlap nor are used by anybody else meanwhile. The library touches nothing outside
-    // of them and keeps no pointer, and any words that it leaves are valid.
+    see_version();
+    // SAFETY: the library is of this version, where the declarations above are its own and `Record`
+    // is laid out as its array of 208 words. Both slices are initialised, aligned and not null,
+    // even if empty, hold as many elements as is said, and, being borrowed mutably, neither overlap
+    // nor are used by anybody else meanwhile. The library touches nothing outside of them and keeps
+    // no pointer, and any words that it leaves are valid.
     unsafe {
         nq_step(
             desks,
@@ -71,7 +88,9 @@ pub(crate) fn step(
 
 /// Reads one record of a day file.
 pub(crate) fn read(bytes: &[u8]) -> Reading {
-    // SAFETY: the slice is initialised, not null even if empty, holds as many bytes as is said, and
-    // is not written meanwhile. The library only reads it, and keeps no pointer.
+    see_version();
+    // SAFETY: the library is of this version, where the declaration above is its own. The slice is
+    // initialised, not null even if empty, holds as many bytes as is said, and is not written
+    // meanwhile. The library only reads it, and keeps no pointer.
     unsafe { nq_read(bytes.as_ptr(), bytes.len()) }
 }

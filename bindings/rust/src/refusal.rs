@@ -16,7 +16,9 @@ pub enum Refusal {
     DeskBusy = 3,
     /// 4: the desk that has the turn has no call under way.
     DeskIdle = 4,
-    /// 5: the event number is 65,535, the last one of a day.
+    /// 5: the event number is 65,535, the last one of a day. Go on with a new
+    /// [`Register`](crate::Register); calls under way and rows are lost. The
+    /// [crate's page](crate#full-days) shows how to enter again what stood in the rows.
     DayFull = 5,
     /// 6: there is not exactly one record for each desk of the day, or the page list of a turn has
     /// fewer words than the day has desks.
@@ -35,29 +37,37 @@ pub enum Refusal {
     CannotArise = 11,
 }
 
-const ALL: [Refusal; 11] = [
-    Refusal::DeskCount,
-    Refusal::NoSuchDesk,
-    Refusal::DeskBusy,
-    Refusal::DeskIdle,
-    Refusal::DayFull,
-    Refusal::LentSize,
-    Refusal::CutShort,
-    Refusal::UnknownKind,
-    Refusal::WrongLength,
-    Refusal::OpenState,
-    Refusal::CannotArise,
-];
-
 impl Refusal {
     /// Its number, by which the specification and the day runner name it.
-    pub fn number(self) -> u32 {
+    #[must_use]
+    pub const fn number(self) -> u32 {
         self as u32
     }
 
     /// The refusal of a number, if it is one.
-    pub fn from_number(number: u32) -> Option<Refusal> {
-        ALL.into_iter().find(|refusal| refusal.number() == number)
+    #[must_use]
+    pub const fn from_number(number: u32) -> Option<Refusal> {
+        Some(match number {
+            1 => Refusal::DeskCount,
+            2 => Refusal::NoSuchDesk,
+            3 => Refusal::DeskBusy,
+            4 => Refusal::DeskIdle,
+            5 => Refusal::DayFull,
+            6 => Refusal::LentSize,
+            7 => Refusal::CutShort,
+            8 => Refusal::UnknownKind,
+            9 => Refusal::WrongLength,
+            10 => Refusal::OpenState,
+            11 => Refusal::CannotArise,
+            _ => return None,
+        })
+    }
+}
+
+/// Its [number](Refusal::number).
+impl From<Refusal> for u32 {
+    fn from(refusal: Refusal) -> u32 {
+        refusal.number()
     }
 }
 
@@ -73,7 +83,9 @@ impl fmt::Display for Refusal {
             Refusal::CutShort => "the day file is cut short",
             Refusal::UnknownKind => "the day file has a record of an unknown kind",
             Refusal::WrongLength => "the day file has a record of a wrong length",
-            Refusal::OpenState => "the day is not open, or is open already",
+            Refusal::OpenState => {
+                "an opening of an open day, or another request before the opening"
+            }
             Refusal::CannotArise => "the day cannot have arisen",
         })
     }

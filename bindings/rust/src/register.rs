@@ -1,5 +1,5 @@
 use crate::library::{self, Reply};
-use crate::{other_version, Answer, Page, Record, Refusal};
+use crate::{other_version, Answer, Page, Record, Refusal, Task};
 
 /// Something asked of a register: what one record of a day file holds.
 #[derive(Clone, Copy, Debug, PartialEq, Eq, Hash)]
@@ -33,7 +33,7 @@ pub enum Request {
 ///
 /// Desks are numbered from 1. A refused request changes nothing. See the [crate's page](crate) for
 /// an example.
-#[derive(Clone, Debug, Default, PartialEq, Eq)]
+#[derive(Clone, Debug, Default, PartialEq, Eq, Hash)]
 pub struct Register {
     desks: u32,
     event: u32,
@@ -45,32 +45,86 @@ impl Register {
     pub const MOST_DESKS: usize = 8;
 
     /// A blank day, to be opened.
-    pub fn new() -> Register {
-        Register::default()
+    ///
+    /// ```
+    /// use nelvaquist::Register;
+    /// use std::sync::Mutex;
+    ///
+    /// static SHARED: Mutex<Register> = Mutex::new(Register::new());
+    /// assert_eq!(SHARED.lock().unwrap().open(2), Ok(()));
+    /// ```
+    #[must_use]
+    pub const fn new() -> Register {
+        Register { desks: 0, event: 0, records: Vec::new() }
     }
 
     /// Takes up a day as it was kept: its desk count, its event number and the records of desks 1,
-    /// 2 and so on. Anything is taken; what does not fit together, the next request will refuse.
-    pub fn from_parts(desks: u32, event: u32, records: Vec<Record>) -> Register {
+    /// 2 and so on.
+    ///
+    /// Anything is taken: what a refusal names is refused at the next request, and the rest is
+    /// worked on by the rules.
+    #[must_use]
+    pub const fn from_parts(desks: u32, event: u32, records: Vec<Record>) -> Register {
         Register { desks, event, records }
     }
 
+    /// All that the day is, to be kept: its desk count, its event number and the records of desks
+    /// 1, 2 and so on.
+    #[must_use]
+    pub fn into_parts(self) -> (u32, u32, Vec<Record>) {
+        (self.desks, self.event, self.records)
+    }
+
+    /// Whether the day has been opened: its desk count is not 0.
+    #[must_use]
+    pub const fn is_open(&self) -> bool {
+        self.desks != 0
+    }
+
     /// The desk count, 0 before the opening.
-    pub fn desks(&self) -> u32 {
+    #[must_use]
+    pub const fn desks(&self) -> u32 {
         self.desks
     }
 
     /// The event number: that of the last call or turn accepted, 0 before the first.
-    pub fn event(&self) -> u32 {
+    #[must_use]
+    pub const fn event(&self) -> u32 {
         self.event
     }
 
     /// The records of the desks, that of desk 1 first.
+    #[must_use]
     pub fn records(&self) -> &[Record] {
         &self.records
     }
 
+    /// The task of a desk, or none if there is no such desk.
+    ///
+    /// ```
+    /// use nelvaquist::{Register, Task};
+    ///
+    /// let mut register = Register::new();
+    /// register.open(2)?;
+    /// register.entry(1, 7)?;
+    /// assert_eq!(register.task(1), Some(Task::Entry { word: 7, turns: 0 }));
+    /// assert_eq!(register.task(2), Some(Task::Idle));
+    /// assert_eq!(register.task(3), None);
+    /// # Ok::<(), nelvaquist::Refusal>(())
+    /// ```
+    #[must_use]
+    pub fn task(&self, desk: u32) -> Option<Task> {
+        if desk > self.desks {
+            // A day that was taken up damaged can have a record there nonetheless.
+            return None;
+        }
+        let place = (desk as usize).checked_sub(1)?;
+        self.records.get(place).map(Record::task)
+    }
+
     /// Opens a blank day for that many desks, with new records.
+    ///
+    /// # Errors
     ///
     /// Refused with [`OpenState`](Refusal::OpenState) if the day is open, then with
     /// [`DeskCount`](Refusal::DeskCount) if the count is outside 1 to 8.
@@ -80,6 +134,8 @@ impl Register {
 
     /// An entry call: the desk's turns will write the word to its row.
     ///
+    /// # Errors
+    ///
     /// Refused, in this order, with [`OpenState`](Refusal::OpenState) if the day is not open,
     /// [`LentSize`](Refusal::LentSize) or [`CannotArise`](Refusal::CannotArise) if it was taken up
     /// damaged, [`NoSuchDesk`](Refusal::NoSuchDesk), [`DeskBusy`](Refusal::DeskBusy) if the desk
@@ -88,7 +144,11 @@ impl Register {
         self.step(Request::Entry { desk, word }, &mut []).map(|_| ())
     }
 
-    /// A page call: the desk's turns will read all rows. Refused as an [entry call](Self::entry).
+    /// A page call: the desk's turns will read all rows.
+    ///
+    /// # Errors
+    ///
+    /// Refused as an [entry call](Self::entry).
     pub fn page(&mut self, desk: u32) -> Result<(), Refusal> {
         self.step(Request::Page { desk }, &mut []).map(|_| ())
     }
@@ -96,16 +156,16 @@ impl Register {
     /// A turn of a desk, answered by [`Read`](Answer::Read) until the last one of its call, which
     /// is answered by [`Page`](Answer::Page) or [`Written`](Answer::Written).
     ///
+    /// # Errors
+    ///
     /// Refused as an [entry call](Self::entry), but with [`DeskIdle`](Refusal::DeskIdle) if the
     /// desk has no call under way.
     pub fn turn(&mut self, desk: u32) -> Result<Answer, Refusal> {
         self.step(Request::Turn { desk }, &mut [0; Register::MOST_DESKS])
     }
 
-    /// A request of any kind, with a page list. Only a turn looks at the page list: it is refused
-    /// with [`LentSize`](Refusal::LentSize) if the list has fewer words than the day has desks, and
-    /// if it answers a page, the list's first words become the page's. No other word of the list
-    /// changes.
+    /// A request of any kind, with a page list. Only a turn looks at the page list: if it answers a
+    /// page, the list's first words become the page's. No other word of the list changes.
     ///
     /// ```
     /// use nelvaquist::{DayFile, Register};
@@ -121,6 +181,12 @@ impl Register {
     /// assert_eq!((register.desks(), register.event()), (2, 1));
     /// # Ok::<(), nelvaquist::Refusal>(())
     /// ```
+    ///
+    /// # Errors
+    ///
+    /// Refused as [`open`](Self::open), [`entry`](Self::entry), [`page`](Self::page) and
+    /// [`turn`](Self::turn) are; a turn also with [`LentSize`](Refusal::LentSize) if the list has
+    /// fewer words than the day has desks.
     pub fn step(&mut self, request: Request, page: &mut [u32]) -> Result<Answer, Refusal> {
         let day = (self.desks, self.event);
         let reply = match request {
@@ -130,7 +196,7 @@ impl Register {
                 let count = usize::try_from(desks).ok().filter(|&count| count <= most);
                 let mut records = vec![Record::default(); count.unwrap_or(0)];
                 let reply = library::step(day, &mut records, (1, desks, 0), page);
-                if reply.kind != 0 {
+                if reply.answer != 0 {
                     self.records = records;
                 }
                 reply
@@ -149,7 +215,7 @@ impl Register {
 
 /// What a reply says. The words of a page are in the page list.
 fn answer(reply: &Reply, page: &[u32]) -> Result<Answer, Refusal> {
-    match reply.kind {
+    match reply.answer {
         0 => match Refusal::from_number(reply.refusal) {
             Some(refusal) => Err(refusal),
             None => other_version("refusal", reply.refusal),
@@ -159,6 +225,6 @@ fn answer(reply: &Reply, page: &[u32]) -> Result<Answer, Refusal> {
         3 => Ok(Answer::Read),
         4 => Ok(Answer::Page(Page::new(page, reply.desks, reply.lender, reply.at, reply.turns))),
         5 => Ok(Answer::Written { turns: reply.turns }),
-        kind => other_version("answer", kind),
+        number => other_version("answer", number),
     }
 }

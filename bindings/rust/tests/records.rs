@@ -1,6 +1,8 @@
 //! Records kept and taken up again, and words that were damaged.
 
-use nelvaquist::{Answer, DayFile, Record, Register, Request};
+use nelvaquist::{Answer, DayFile, Record, Register, Request, Task};
+use std::collections::HashSet;
+use std::sync::Mutex;
 
 /// Numbers that look random, the same ones on every run.
 struct Random(u64);
@@ -17,7 +19,7 @@ impl Random {
     }
 }
 
-/// A record by what the C header says of its words; all others are 0.
+/// A record by what its manual says of its words; all others are 0.
 fn record(parts: &[(usize, &[u32])]) -> Record {
     let mut words = [0; Record::WORDS];
     for &(place, part) in parts {
@@ -27,7 +29,7 @@ fn record(parts: &[(usize, &[u32])]) -> Record {
 }
 
 #[test]
-fn laid_out_as_the_header_says() {
+fn laid_out_as_the_manual_says() {
     // Day B up to event 18: desk 1 is in its second double collect, desk 2 ready to write 9.
     let file = include_bytes!("../../../samples/b.day");
     let mut register = Register::new();
@@ -53,6 +55,111 @@ fn laid_out_as_the_header_says() {
     assert_eq!(register.records(), [desk_1, desk_2]);
 }
 
+/// A task by the numbers of a record: its kind, its word, its instant and its turns.
+fn task(numbers: [u32; 4]) -> Task {
+    record(&[(11, &numbers)]).task()
+}
+
+#[test]
+fn tasks_by_their_numbers() {
+    assert_eq!(Record::default().task(), Task::Idle);
+    assert_eq!(task([0, 8, 9, 4]), Task::Idle);
+    assert_eq!(task([1, 8, 9, 4]), Task::Page { turns: 4 });
+    assert_eq!(task([2, 8, 9, 4]), Task::Entry { word: 8, turns: 4 });
+    assert_eq!(task([3, 8, 9, 4]), Task::Ready { word: 8, at: 9, turns: 4 });
+    for kind in [4, u32::MAX] {
+        assert_eq!(task([kind, 8, 9, 4]), Task::Unknown { kind });
+    }
+}
+
+#[test]
+fn tasks_of_a_day() {
+    let mut register = Register::new();
+    assert_eq!((register.is_open(), register.task(0), register.task(1)), (false, None, None));
+    register.open(1).unwrap();
+    assert_eq!((register.is_open(), register.task(1)), (true, Some(Task::Idle)));
+    register.page(1).unwrap();
+    assert_eq!(register.task(1), Some(Task::Page { turns: 0 }));
+    register.turn(1).unwrap();
+    assert_eq!(register.task(1), Some(Task::Page { turns: 1 }));
+    register.turn(1).unwrap();
+    assert_eq!(register.task(1), Some(Task::Idle));
+    register.entry(1, 7).unwrap();
+    register.turn(1).unwrap();
+    assert_eq!(register.task(1), Some(Task::Entry { word: 7, turns: 1 }));
+    register.turn(1).unwrap();
+    assert_eq!(register.task(1), Some(Task::Ready { word: 7, at: 5, turns: 2 }));
+    assert_eq!((register.records()[0].word(), register.records()[0].seq()), (0, 0));
+    register.turn(1).unwrap();
+    assert_eq!(register.task(1), Some(Task::Idle));
+    assert_eq!((register.records()[0].word(), register.records()[0].seq()), (7, 1));
+    for desk in [0, 2, u32::MAX] {
+        assert_eq!(register.task(desk), None);
+    }
+}
+
+#[test]
+fn desks_of_a_damaged_day() {
+    let blank = vec![Record::default(); 2];
+    let tasks = |desks| {
+        let register = Register::from_parts(desks, 0, blank.clone());
+        [0, 1, 2, 3, u32::MAX].map(|desk| register.task(desk).is_some())
+    };
+    assert_eq!(tasks(0), [false; 5]);
+    assert_eq!(tasks(1), [false, true, false, false, false]);
+    assert_eq!(tasks(u32::MAX), [false, true, true, false, false]);
+}
+
+#[test]
+fn shown_in_short() {
+    let shown = record(&[(0, &[7, 1, 5]), (11, &[3, 8, 9, 4]), (200, &[1])]);
+    let wanted = "Record { word: 7, seq: 1, task: Ready { word: 8, at: 9, turns: 4 }, .. }";
+    assert_eq!(format!("{shown:?}"), wanted);
+    let register = Register::from_parts(1, 9, vec![shown]);
+    let wanted = format!("Register {{ desks: 1, event: 9, records: [{wanted}] }}");
+    assert_eq!(format!("{register:?}"), wanted);
+}
+
+#[test]
+fn parts() {
+    let mut words = [0; Record::WORDS];
+    (0..).zip(&mut words).for_each(|(place, word)| *word = place);
+    let record = Record::from(words);
+    assert_eq!(record, Record::from_words(words));
+    assert_eq!((record.words(), record.clone().into_words()), (&words, words));
+    assert_eq!((record.word(), record.seq()), (0, 1));
+    let register = Register::from_parts(3, 70_000, vec![record.clone()]);
+    assert_eq!(register.into_parts(), (3, 70_000, vec![record]));
+}
+
+#[test]
+fn days_as_keys() {
+    let mut seen = HashSet::from([Register::new()]);
+    let mut register = Register::default();
+    assert!(seen.contains(&register));
+    register.open(1).unwrap();
+    assert!(seen.insert(register.clone()));
+    register.page(1).unwrap();
+    assert!(seen.insert(register));
+}
+
+#[test]
+fn a_day_that_is_shared() {
+    static SHARED: Mutex<Register> = Mutex::new(Register::new());
+    SHARED.lock().unwrap().open(8).unwrap();
+    std::thread::scope(|threads| {
+        for desk in 1..=8 {
+            threads.spawn(move || {
+                SHARED.lock().unwrap().entry(desk, desk).unwrap();
+                while SHARED.lock().unwrap().turn(desk).unwrap() == Answer::Read {}
+            });
+        }
+    });
+    let register = SHARED.lock().unwrap();
+    let words: Vec<u32> = register.records().iter().map(Record::word).collect();
+    assert_eq!(words, [1, 2, 3, 4, 5, 6, 7, 8]);
+}
+
 #[test]
 fn marks_and_words_without_a_meaning() {
     // A page has no word of its own and no instant, and any number is a mark.
@@ -67,7 +174,7 @@ fn marks_and_words_without_a_meaning() {
 fn through_bytes(register: &Register) -> Register {
     let bytes: Vec<u8> = [register.desks(), register.event()]
         .iter()
-        .chain(register.records().iter().flat_map(|record| record.words()))
+        .chain(register.records().iter().flat_map(Record::words))
         .flat_map(|word| word.to_le_bytes())
         .collect();
     let words: Vec<u32> =

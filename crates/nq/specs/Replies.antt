@@ -1,5 +1,5 @@
 -- Answers as numbers: the paper's number of a refusal and the values of each case (`replyOf`, `readerReply`), each in its place, and 0
--- where a case has none. The kinds of answer, 0 to 5, are the library's own; those of records are the day file's.
+-- where a case has none. The numbers of answers, 0 to 5, are the library's own; the kinds of records are the day file's.
 use Prim.Native.Nat.{ℕ, _≤_}
 use Rattle.snapshot.specs.Replies.{Reply, refused, opened, called, read, page, written}
 use Rattle.snapshot.specs.declared.Day.{Day}
@@ -12,14 +12,18 @@ use Rattle.dayfile.specs.Reader.{ReaderReply, found, ended}
 use Rattle.nq.specs.declared.ReplyNumbers.{ReplyNumbers}
 use Rattle.nq.specs.declared.RecordNumbers.{RecordNumbers}
 
+-- the version of the layout of records, of replies and of the functions' parameters
+abbrev pub version : ℕ
+version = 1
+
 -- the day that two numbers are
 abbrev pub dayWith : (count event : ℕ) → Day
 dayWith count event = record { count = count; event = event }
 
 -- a reply, and the day after it
-abbrev pub replyWith : Day → (kind refusal lender at turns : ℕ) → ReplyNumbers
+abbrev pub replyWith : Day → (answer refusal lender at turns : ℕ) → ReplyNumbers
 replyWith d k refusal l at t =
-    record { count = d .count; event = d .event; kind = k; refusal = refusal; lender = l; at = at; turns = t }
+    record { count = d .count; event = d .event; answer = k; refusal = refusal; lender = l; at = at; turns = t }
 
 abbrev pub replyNumbers : Day → Reply ℕ → ReplyNumbers
 replyNumbers d (refused k) = replyWith d 0 k 0 0 0

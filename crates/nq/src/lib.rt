@@ -12,16 +12,16 @@ ghost use Rattle.snapshot.specs.Replies.{replyOf};
 ghost use Rattle.snapshot.specs.declared.Request.the-variants.{Open, Update, Scan, Turn};
 ghost use Rattle.dayfile.specs.Reader.{reading, readerReply};
 ghost use Rattle.packed_table.specs.Tables.{tableAfter, steppedIn};
-ghost use Rattle.nq.specs.Replies.{dayWith, replyWith, replyNumbers, Short, recordWith, requestNumbers, recordNumbers};
+ghost use Rattle.nq.specs.Replies.{version, dayWith, replyWith, replyNumbers, Short, recordWith, requestNumbers, recordNumbers};
 ghost use Rattle.nq.specs.Requests.{requestNumbered, isKind, replyTo, replyIn, tableIn, pageIn};
 
-// The day after a request, the kind of its answer (0 refused, 1 opened, 2 called, 3 read, 4 page, 5 written), the number of the
-// refusal, the lender and the instant of a page, and the turns of a task.
+// The day after a request, its answer (0 refused, 1 opened, 2 called, 3 read, 4 page, 5 written), the number of the refusal, the
+// lender and the instant of a page, and the turns of a task.
 #[repr(C)]
 pub struct ReplyNumbers {
     pub count: u32,
     pub event: u32,
-    pub kind: u32,
+    pub answer: u32,
     pub refusal: u32,
     pub lender: u32,
     pub at: u32,
@@ -38,13 +38,13 @@ pub struct RecordNumbers {
     pub next: u32,
 }
 
-fn reply(day: Day, kind: u32, refusal: u32, lender: u32, at: u32, turns: u32) -> ReplyNumbers
-    ensures { λ r. ⌜ r ≡ replyWith day kind refusal lender at turns ⌝ }
+fn reply(day: Day, answer: u32, refusal: u32, lender: u32, at: u32, turns: u32) -> ReplyNumbers
+    ensures { λ r. ⌜ r ≡ replyWith day answer refusal lender at turns ⌝ }
 {
     ReplyNumbers {
         count: day.count,
         event: day.event,
-        kind,
+        answer,
         refusal,
         lender,
         at,
@@ -246,4 +246,12 @@ pub extern "C" fn nq_read(bytes: &[u8]) -> RecordNumbers
     ensures { λ r. ⌜ r ≡ recordNumbers (readerReply (reading (now (bytes .entry)))) ⌝ }
 {
     record_of(dayfile::read(bytes))
+}
+
+// The version of what crosses: the header and the library of a program are of one.
+#[no_mangle]
+pub extern "C" fn nq_version() -> u32
+    ensures { λ v. ⌜ v ≡ version ⌝ }
+{
+    1
 }
