@@ -1,7 +1,6 @@
 -- The parts of a record are packed as they were unpacked (`by-parts`), and so are words that are as packing writes them
 -- (`pack-unpacked`).
 use Prim.Native.Nat.{ℕ, zero, suc, _+_, _*_}
-use native.Mathlib.Nat.{add-zero}
 use native.Mathlib.Omega.{arith}
 use mathlib.Core.Path.{_≡_, refl, sym, ap, ap₂, _∙_}
 use mathlib.Core.List.{List, [], _∷_, _++_, map, append-nil}

@@ -52,7 +52,7 @@ packRecord p =
     ∷ map packMark (p .moved)
     ∷ [])
 
--- p packed over the words of a record; it replaces all of a row of 208, as every lent one is
+-- p packed over the words of a record; where its arrays have their eight places, it replaces all of a row of 208, as every lent one is
 abbrev pub packedOver : List ℕ → Process → List ℕ
 packedOver ws p = sets ws 0 (packRecord p)
 

@@ -231,7 +231,8 @@ pub fn lay_task(w: &mut [u32; 208], k: Task)
     }
 }
 
-// Register r read into a place of the collects. The places of the first are 0 to 7, those of the second 8 to 15.
+// Register r, with the first n words of its view, read into a place of the collects: those of the first are 0 to 7, of the second 8 to
+// 15.
 pub fn lay_place(w: &mut [u32; 208], place: usize, n: usize, r: Register)
     requires { ⌜ (place < 16) × (n ≤ 8) ⌝ }
     ensures { λ _. ⌜ now (w .exit) ≡ storedAt n r (15 + 11 * place) (now (w .entry)) ⌝ }

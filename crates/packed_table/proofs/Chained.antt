@@ -10,7 +10,7 @@ use mathlib.Core.Bool.{false, not}
 use mathlib.Core.List.{List, [], _∷_, map}
 use mathlib.Core.Option.{Option, none, some}
 use lib.Dec.{T}
-use lib.ListN.{length, getD, set, drop, length-set, length-replicate}
+use lib.ListN.{length, getD, set, length-set, length-replicate}
 use lib.Seq.{getD-set-same, getD-set-other, length-sets}
 use Rattle.snapshot.specs.Marks.{passed, Found}
 use Rattle.snapshot.specs.Requests.{numberIn}
@@ -30,12 +30,12 @@ use Rattle.unbounded.specs.declared.Register.{Register}
 use Rattle.unbounded.specs.declared.Process.{Process}
 use Rattle.unbounded.specs.declared.Task.{Task}
 use Rattle.unbounded.specs.declared.Task.the-variants as Tasks
-use Rattle.unbounded.specs.Registers.{noRegister, ascending, differs}
+use Rattle.unbounded.specs.Registers.{ascending, differs}
 use Rattle.unbounded.specs.Processes.{noProcess, zeroProcess, taskOf, begin}
 use Rattle.unbounded.specs.Turns.{position, reads, firstAfter, secondAfter, decision, marksAfter, foundBy, afterRead}
 use Rattle.unbounded.specs.Turns.{scanTurn, updateTurn, turned, turnedBy}
 use Rattle.unbounded.specs.Days.{figure3, stepped}
-use Rattle.unbounded.proofs.Whole.{Whole, WholeCollect, whole-begin, whole-turned, reads-within}
+use Rattle.unbounded.proofs.Whole.{whole-begin, whole-turned, reads-within}
 use Rattle.unbounded.proofs.Demand3.{ascending-permutes}
 use Rattle.memory.specs.Tables.{stateOf, refusalIn, acceptedIn}
 use Rattle.memory.proofs.Accepted.{stepped-accepted, admits, admits-inside}

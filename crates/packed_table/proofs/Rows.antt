@@ -1,6 +1,5 @@
 -- A table of packed records: its records, and what a request leaves of the table.
-use Prim.Native.Nat.{ℕ, _+_, _-_, _<_, _≤_}
-use native.Mathlib.Nat.{zero-add}
+use Prim.Native.Nat.{ℕ, _+_, _-_, _<_}
 use native.Mathlib.Omega.{arith}
 use native.Mathlib.Numerals.{add-one}
 use mathlib.Core.Path.{_≡_, refl, sym, ap, _∙_, subst}
@@ -9,7 +8,7 @@ use mathlib.Core.List.{List, [], _∷_, _++_, map, foldl, append-nil}
 use mathlib.Core.Option.{Option, none, some}
 use lib.Dec.{T}
 use lib.ListN.{length, getD, set, drop, replicate, length-map}
-use lib.Seq.{sets, drop-cons, getD-set-same, take-all, drop-length}
+use lib.Seq.{drop-cons, getD-set-same, take-all, drop-length}
 use Rattle.snapshot.specs.Lists.{over}
 use Rattle.snapshot.specs.Requests.{numberIn}
 use Rattle.snapshot.specs.Demand.{Result}
@@ -24,27 +23,20 @@ use Rattle.requests.specs.Requests.{itemOf, isOpening, isCall}
 use Rattle.admission.specs.Checks.{isRefusal, firstRefusal}
 use Rattle.admission.specs.Outcomes.{refusedOutcome}
 use Rattle.admission.specs.declared.Survey.{Survey}
-use Rattle.unbounded.specs.declared.Register.{Register}
 use Rattle.unbounded.specs.declared.Process.{Process}
 use Rattle.unbounded.specs.declared.Task.{Task}
 use Rattle.unbounded.specs.declared.Task.the-variants as Tasks
 use Rattle.unbounded.specs.Registers.{zeroRegister}
-use Rattle.unbounded.specs.Processes.{noProcess, zeroProcess, begin, turnsOf}
-use Rattle.unbounded.specs.Days.{unsound}
-use Rattle.unbounded_tasks.specs.declared.Access.{Access}
+use Rattle.unbounded.specs.Processes.{noProcess, zeroProcess}
 use Rattle.unbounded_tasks.specs.declared.Find.{Find}
-use Rattle.unbounded_tasks.specs.Accesses.{Sound, isReady}
+use Rattle.unbounded_tasks.specs.Accesses.{isReady}
 use Rattle.unbounded_finds.specs.Finds.{nothingFound}
 use Rattle.unbounded_tasks.specs.Tasks.{answerBy}
 use Rattle.unbounded_tasks.specs.Surveys.{surveyOf, surveyedBy}
-use Rattle.unbounded_turns.specs.Steps.{withTask, begunBy}
-use Rattle.unbounded_turns.proofs.Parts.{withRegister}
 use Rattle.memory.specs.Tables.{stateOf, refusalIn, acceptedIn}
-use Rattle.memory.specs.Turning.{Turning, TurnAt, foundAt}
+use Rattle.memory.specs.Turning.{TurnAt, foundAt}
 use Rattle.memory.proofs.Accepted.{write-leaves, read-leaves}
-use Rattle.packed.specs.Packing.{packRecord, unpackRecord, packRegister, packTask, unpackRegister, unpackTask}
-use Rattle.packed.proofs.Words.{sets-over}
-use Rattle.packed.proofs.Packing.{register-long, task-long}
+use Rattle.packed.specs.Packing.{packRecord, unpackRecord, unpackRegister, unpackTask}
 use Rattle.packed_table.specs.Tables.{unpackedAll, recordAt, packedAt, packedBy, changed, isRefused, tableAfter}
 
 -- ---- the records of a table
@@ -187,9 +179,6 @@ opening-is (Turn d) o = absurd o
 module _ (day : Day) (t : List (List ℕ)) (i : ℕ) (k : Task) (h : TurnAt day (unpackedAll t) i k) where
   pub turn-inside : i < length t
   turn-inside = let l = h .inside in let long = records-long t in omega arith
-
-  pub turn-task : recordAt t i .task ≡ k
-  turn-task = sym (ap (λ p. p .task) (record-is t i turn-inside)) ∙ h .task
 
   pub turn-seq : unpackRegister (getD t i []) .seq < 4294967295
   turn-seq = subst (λ r. r .seq < 4294967295) (sym (register-is t i turn-inside)) (h .seq)

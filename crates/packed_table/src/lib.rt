@@ -1,5 +1,6 @@
-// A request on a table of packed records; crate `memory` does the same on a table of records. Of each record only what a request
-// needs is unpacked: what refusal 11 looks at of all, and the register of one. Only the record that changes is stored to.
+// A request on a table of packed records; crate `memory` does the same on a table of records. Only what a request needs is unpacked:
+// of every record what refusal 11 looks at, the register that is read, and the process's own record where a double collect ends. Only
+// the record that changes is stored to.
 use admission::Check;
 use admission::Survey;
 use admission::checks;

@@ -1,101 +1,28 @@
 -- A part stored in the words of a packed record gives those of the record with that part; and a task and marks stored in any words
 -- give those of a packed record (`tidied`).
-use Prim.Native.Nat.{ℕ, zero, suc, _+_, _*_, _<_, _≤_}
-use native.Mathlib.Nat.{zero-add, not-suc-le-zero}
+use Prim.Native.Nat.{ℕ, _+_, _*_, _<_, _≤_}
+use native.Mathlib.Nat.{zero-add}
 use native.Mathlib.Omega.{arith}
 use mathlib.Core.Path.{_≡_, refl, sym, ap, _∙_}
 use mathlib.Core.Bool.{Bool}
-use mathlib.Core.List.{List, [], _∷_, _++_, map, append-assoc}
-use lib.ListN.{length, getD, take, drop, set, length-map, length-append}
+use mathlib.Core.List.{List, [], _∷_, _++_, map}
+use lib.ListN.{length, take, drop, set, length-map}
 use lib.Seq.{sets, length-sets, length-take-le}
 use Rattle.snapshot.specs.Lists.{over}
-use Rattle.snapshot.proofs.Lists.{length-over}
 use Rattle.unbounded.specs.declared.Register.{Register}
 use Rattle.unbounded.specs.declared.Process.{Process}
 use Rattle.unbounded.specs.declared.Task.{Task}
-use Rattle.unbounded.specs.Registers.{noRegister, laid, readInto}
+use Rattle.unbounded.specs.Registers.{readInto}
 use Rattle.unbounded.proofs.Whole.{whole-read}
 use Rattle.unbounded_turns.specs.Steps.{withTask}
 use Rattle.unbounded_turns.proofs.Parts.{withRegister, withCollected}
 use Rattle.packed.specs.Packing.{packRegister, storedAt, packTask, packCollect, packMark, packRecord, packedOver}
 use Rattle.packed.specs.Packing.{words, unpackRecord}
-use Rattle.packed.proofs.Words.{sets-cons, sets-same, sets-over, sets-within}
-use Rattle.packed.proofs.Packing.{Views, Eights, register-long, task-long, collect-views, own-long, first-long, second-long}
+use Rattle.packed.proofs.Words.{sets-same, sets-over, sets-within}
+use Rattle.packed.proofs.Packing.{Eights, register-long, task-long, collect-views, own-long, first-long, second-long}
 use Rattle.packed.proofs.Packing.{packed-long, unpack-whole}
+use Rattle.packed.proofs.Stored.{past, front, here, stored-past, stored-place}
 use Rattle.packed.proofs.Kept.{by-parts}
-
--- ---- stores in lists that are joined
-
-sets-past : (xs ys : List ℕ) (j : ℕ) (vs : List ℕ) → sets (xs ++ ys) (length xs + j) vs ≡ xs ++ sets ys j vs
-sets-past [] ys j vs = ap (λ k. sets ys k vs) (zero-add j)
-sets-past (x ∷ xs) ys j vs =
-    let e : suc (length xs) + j ≡ suc (length xs + j) = omega arith in
-    ap (λ k. sets (x ∷ (xs ++ ys)) k vs) e ∙ sets-cons x (xs ++ ys) (length xs + j) vs ∙ ap (λ l. x ∷ l) (sets-past xs ys j vs)
-
--- past the first list, which has k elements
-past : (xs ys vs : List ℕ) {zs : List ℕ} (k m j : ℕ) → length xs ≡ k → k + m ≡ j → sets ys m vs ≡ zs →
-    sets (xs ++ ys) j vs ≡ xs ++ zs
-past xs ys vs k m j e q h =
-    ap (λ i. sets (xs ++ ys) i vs) (sym q ∙ ap (λ i. i + m) (sym e)) ∙ sets-past xs ys m vs ∙ ap (λ l. xs ++ l) h
-
--- at its front
-front : (us xs vs : List ℕ) (k : ℕ) → length vs ≡ k → k ≤ length us → sets (us ++ xs) 0 vs ≡ (vs ++ drop k us) ++ xs
-front us xs vs k e h = stores us vs (omega arith) ∙ ap (λ i. (vs ++ drop i us) ++ xs) e
-  where
-    stores : (us vs : List ℕ) → length vs ≤ length us → sets (us ++ xs) 0 vs ≡ (vs ++ drop (length vs) us) ++ xs
-    stores us [] h = refl
-    stores [] (v ∷ vs) h = absurd (not-suc-le-zero h)
-    stores (u ∷ us) (v ∷ vs) h = sets-cons v (us ++ xs) 0 vs ∙ ap (λ l. v ∷ l) (stores us vs (omega arith))
-
--- all of it
-here : (us xs vs : List ℕ) → length us ≡ length vs → sets (us ++ xs) 0 vs ≡ vs ++ xs
-here [] xs [] e = refl
-here [] xs (v ∷ vs) e = absurd (omega arith)
-here (u ∷ us) xs [] e = absurd (omega arith)
-here (u ∷ us) xs (v ∷ vs) e = sets-cons v (us ++ xs) 0 vs ∙ ap (λ l. v ∷ l) (here us xs vs (omega arith))
-
--- ---- a register stored in a collect
-
-module _ (n : ℕ) (r : Register) where
-  stored-past : (xs ys : List ℕ) {zs : List ℕ} (k m j : ℕ) → length xs ≡ k → k + m ≡ j → storedAt n r m ys ≡ zs →
-      storedAt n r j (xs ++ ys) ≡ xs ++ zs
-  unfolding storedAt
-  stored-past xs ys k m j e q h =
-      let head = r .word ∷ r .seq ∷ take n (r .view) in
-      ap (λ l. sets l (j + 10) (r .at ∷ [])) (past xs ys head k m j e q refl)
-      ∙ past xs (sets ys m head) (r .at ∷ []) k (m + 10) (j + 10) e (omega arith) h
-
-  -- over another register
-  stored-here : (old : Register) (rest : List ℕ) → n ≤ 8 → length (r .view) ≡ 8 → length (old .view) ≡ 8 →
-      storedAt n r 0 (packRegister old ++ rest) ≡ packRegister (laid n r old) ++ rest
-  unfolding storedAt laid
-  stored-here old rest b e l =
-      let vs = take n (r .view) in
-      let long : length vs ≡ n = length-take-le n (r .view) (omega arith) in
-      let view = over n (r .view) (old .view) in
-      let same : length view ≡ 8 = length-over n (r .view) (old .view) long (omega arith) ∙ l in
-      ap (λ ws. sets (sets (r .word ∷ r .seq ∷ ws) 2 vs) 10 (r .at ∷ [])) (append-assoc (old .view) (old .at ∷ []) rest)
-      ∙ ap (λ ws. sets ws 10 (r .at ∷ []))
-      (past (r .word ∷ r .seq ∷ []) _ vs 2 0 2 refl refl
-      (front (old .view) (old .at ∷ rest) vs n long (omega arith)))
-      ∙ past (r .word ∷ r .seq ∷ []) (view ++ (old .at ∷ rest)) (r .at ∷ []) 2 8 10 refl refl
-      (past view (old .at ∷ rest) (r .at ∷ []) 8 0 8 same refl refl)
-      ∙ ap (λ ws. r .word ∷ r .seq ∷ ws) (sym (append-assoc view (r .at ∷ []) rest))
-
-  -- in place i of a collect
-  stored-place : (rs : List Register) (rest : List ℕ) (i : ℕ) → n ≤ 8 → length (r .view) ≡ 8 → Views rs → i < length rs →
-      storedAt n r (11 * i) (packCollect rs ++ rest) ≡ packCollect (readInto n r i rs) ++ rest
-  unfolding readInto
-  stored-place [] rest i b e h l = absurd (not-suc-le-zero l)
-  stored-place (s ∷ rs) rest zero b e h l =
-      ap (storedAt n r 0) (append-assoc (packRegister s) (packCollect rs) rest)
-      ∙ stored-here s (packCollect rs ++ rest) b e (h .0)
-      ∙ sym (append-assoc (packRegister (laid n r s)) (packCollect rs) rest)
-  stored-place (s ∷ rs) rest (suc i) b e h l =
-      ap (storedAt n r (11 * suc i)) (append-assoc (packRegister s) (packCollect rs) rest)
-      ∙ stored-past (packRegister s) (packCollect rs ++ rest) 11 (11 * i) (11 * suc i) (register-long s (h .0)) (omega arith)
-      (stored-place rs rest i b e (h .1) (omega arith))
-      ∙ sym (append-assoc (packRegister s) (packCollect (readInto n r i rs)) rest)
 
 -- ---- a part stored in the words of a packed record
 

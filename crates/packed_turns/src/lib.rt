@@ -1,5 +1,5 @@
-// The turns of Figure 3 on one packed record, in place: of its words only those are stored that a turn changes. Crate
-// `unbounded_turns` has the same turns on a record by value.
+// The turns of Figure 3 on one packed record, in place: a call, a read and a write store the words that they change, the task and the
+// marks; a read that ends its double collect unpacks the record. Crate `unbounded_turns` has the same turns on a record by value.
 use unbounded::Register;
 use unbounded::Task;
 use unbounded_finds::collects;

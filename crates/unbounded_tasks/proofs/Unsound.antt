@@ -1,14 +1,13 @@
 -- A look at every record of a table finds whether some record cannot have arisen (refusal 11).
 use Prim.Native.Nat.{ℕ, _≤_, _<_}
-use mathlib.Core.Path.{_≡_, refl, sym, ap, _∙_}
-use mathlib.Core.Bool.{Bool, true, false, _||_, or-false, or-assoc, or-comm}
+use mathlib.Core.Path.{_≡_, sym, ap, _∙_}
+use mathlib.Core.Bool.{Bool, false, _||_, or-false, or-assoc, or-comm}
 use mathlib.Core.List.{List, [], _∷_, foldl}
 use native.Mathlib.Omega.{arith}
 use lib.Dec.{ltb}
 use native.Mathlib.Nat.{mul-le-mul}
 use borrow.Author.Tests.{ltb-false, leb-false, le-ltb}
 use Rattle.snapshot.specs.Lists.{someOf}
-use Rattle.snapshot.specs.Days.{cannotArise}
 use Rattle.snapshot.specs.declared.Day.{Day}
 use Rattle.snapshot.proofs.Booleans.{or-neither}
 use Rattle.admission.specs.declared.Survey.{Survey}
@@ -61,20 +60,6 @@ survey-is-bad day ps = surveyed-all (surveyOf day) ps
 
 pub reads-up-to-8 : (n : ℕ) → 0 < n → n ≤ 8 → readsUpTo8 n ≡ mostReads n
 reads-up-to-8 n l m = simp (le-ltb n 1 (omega arith), le-ltb 8 n m)
-
--- the table's limit and the rule's refuse the same days: more than eight processes cannot have arisen by either
-pub cannot-arise-alike : (day : Day) (ps : List Process) → 0 < day .count →
-    cannotArise day (someOf (unsound (readsUpTo8 (day .count)) (day .event)) ps)
-    ≡ cannotArise day (someOf (unsound (mostReads (day .count)) (day .event)) ps)
-cannot-arise-alike day ps l = go (ltb 8 (day .count)) refl
-  where
-    go : (b : Bool) → ltb 8 (day .count) ≡ b →
-        (b || (ltb 65535 (day .event) || someOf (unsound (readsUpTo8 (day .count)) (day .event)) ps))
-        ≡ (b || (ltb 65535 (day .event) || someOf (unsound (mostReads (day .count)) (day .event)) ps))
-    go true q = refl
-    go false q =
-        let few = ltb-false 8 (day .count) q in
-        ap (λ k. ltb 65535 (day .event) || someOf (unsound k (day .event)) ps) (reads-up-to-8 (day .count) l few)
 
 -- ---- a record that can have arisen has room for one turn and one write more
 

@@ -40,7 +40,7 @@ pub fn register_seen(s: Survey, seq: u32, at: u32) -> Survey
     }
 }
 
-// Whether a record before this one was bad, or its register cannot have arisen.
+// Whether something before was bad, or a register cannot have arisen.
 fn bad_register(s: Survey, seq: u32, at: u32) -> bool
     ensures { λ b. ⌜ b ≡ (s .bad || (ltb (s .event) seq || ltb (s .event) at)) ⌝ }
 {

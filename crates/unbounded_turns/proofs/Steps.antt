@@ -27,7 +27,7 @@ use Rattle.unbounded.specs.Days.{figure3}
 use Rattle.unbounded.proofs.Places.{page-of-long}
 use Rattle.unbounded_tasks.specs.declared.Access.{Access}
 use Rattle.unbounded_tasks.specs.declared.Find.{Find}
-use Rattle.unbounded_tasks.specs.Accesses.{callAccess, isReady, accessOf, registerIn}
+use Rattle.unbounded_tasks.specs.Accesses.{isReady, accessOf, registerIn}
 use Rattle.unbounded_finds.specs.Finds.{decisionFind, findOf, pageBy}
 use Rattle.unbounded_turns.specs.Steps.{withTask, readBy, writtenBy, stateBy, begunBy}
 use Rattle.unbounded_tasks.specs.Tasks.{keepsBy, endsBy, taskBy, answerBy}
@@ -173,10 +173,6 @@ turn-is-steps day ps d page (a-read i q) =
 turn-is-steps day ps d page {r} {f} (a-write q) = writing-is-steps day page (getD ps (d - 1) noProcess) _ r f q
 
 -- ---- what a walk stores
-
-pub call-begins : (day : Day) (k : Task) (p : Process) → begunBy (callAccess day) k p ≡ begin (day .count) k p
-unfolding callAccess begunBy
-call-begins day k p = refl
 
 pub access-count : (day : Day) (k : Task) → accessOf day k .n ≡ day .count
 unfolding accessOf

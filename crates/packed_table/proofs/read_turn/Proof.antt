@@ -2,7 +2,6 @@
 use native.Mathlib.Omega.{arith}
 use Prim.Native.Nat.{_<_}
 use mathlib.Core.Path.{_≡_, sym, ap, _∙_, subst}
-use mathlib.Core.List.{[]}
 use lib.ListN.{length, getD, set}
 use Rattle.admission.specs.Outcomes.{acceptedOutcome}
 use Rattle.unbounded.specs.Processes.{noProcess}

@@ -1,8 +1,6 @@
 -- `packed_table::write_turn` meets its contract.
-use Prim.Native.Nat.{_<_}
-use mathlib.Core.Path.{ap, _∙_, subst}
-use mathlib.Core.List.{[]}
-use lib.ListN.{getD, set}
+use mathlib.Core.Path.{ap, _∙_}
+use lib.ListN.{set}
 use Rattle.admission.specs.Outcomes.{acceptedOutcome}
 use Rattle.unbounded.specs.Registers.{zeroRegister}
 use Rattle.unbounded_tasks.specs.Tasks.{answerBy}

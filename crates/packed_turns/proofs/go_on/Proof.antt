@@ -1,6 +1,6 @@
 -- `packed_turns::go_on` meets its contract.
 use Prim.Native.Nat.{_+_, _*_}
-use mathlib.Core.Path.{_≡_, ap, _∙_}
+use mathlib.Core.Path.{ap, _∙_}
 use mathlib.Core.List.{map}
 use lib.ListN.{set}
 use lib.Seq.{sets}

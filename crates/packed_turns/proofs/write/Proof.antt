@@ -1,7 +1,6 @@
 -- `packed_turns::write` meets its contract.
 use Prim.Native.Nat.{_<_}
-use mathlib.Core.Path.{_≡_, refl, sym, ap, _∙_, subst}
-use lib.ListN.{length}
+use mathlib.Core.Path.{refl, sym, ap, _∙_, subst}
 use lib.Seq.{sets}
 use Rattle.unbounded.specs.Registers.{zeroRegister}
 use Rattle.unbounded.specs.Processes.{begin}
