@@ -94,6 +94,25 @@ fn is_kind(kind: u32) -> bool
     true
 }
 
+// A request by its kind, and its reply.
+fn asked(
+    day: Day,
+    table: &mut [[u32; 208]],
+    kind: u32,
+    process: u32,
+    word: u32,
+    page: &mut [u32],
+) -> ReplyNumbers
+    ensures { λ r. ⌜ r ≡ replyIn day (now (table .entry)) kind process word (now (page .entry)) ⌝ }
+    ensures { λ r. ⌜ now (table .exit) ≡ tableIn day (now (table .entry)) kind process word (now (page .entry)) ⌝ }
+    ensures { λ r. ⌜ now (page .exit) ≡ pageIn day (now (table .entry)) kind process word (now (page .entry)) ⌝ }
+{
+    if is_kind(kind) {
+        return reply_of(packed_table::step(day, table, request_of(kind, process, word), page));
+    }
+    reply(day, 0, snapshot::number(Refusal::UnknownKind), 0, 0, 0)
+}
+
 // A request of any kind: 1 an opening, 2 an entry call, 3 a page call, 4 a turn.
 #[no_mangle]
 pub extern "C" fn nq_step(
@@ -111,11 +130,7 @@ pub extern "C" fn nq_step(
     ensures { λ r. ⌜ now (page .exit) ≡
         pageIn (dayWith count event) (now (table .entry)) kind process word (now (page .entry)) ⌝ }
 {
-    let day = Day { count, event };
-    if is_kind(kind) {
-        return reply_of(packed_table::step(day, table, request_of(kind, process, word), page));
-    }
-    reply(day, 0, snapshot::number(Refusal::UnknownKind), 0, 0, 0)
+    asked(Day { count, event }, table, kind, process, word, page)
 }
 
 // An opening for so many processes.
@@ -131,12 +146,7 @@ pub extern "C" fn nq_open(
         (steppedIn (dayWith count event) (now (table .entry)) (Open processes) []) ⌝ }
 {
     let mut none = [0u32; 1];
-    reply_of(packed_table::step(
-        Day { count, event },
-        table,
-        Request::Open(processes),
-        &mut none,
-    ))
+    asked(Day { count, event }, table, 1, processes, 0, &mut none)
 }
 
 // An entry call.
@@ -153,12 +163,7 @@ pub extern "C" fn nq_entry(
         (steppedIn (dayWith count event) (now (table .entry)) (Update process word) []) ⌝ }
 {
     let mut none = [0u32; 1];
-    reply_of(packed_table::step(
-        Day { count, event },
-        table,
-        Request::Update { process, word },
-        &mut none,
-    ))
+    asked(Day { count, event }, table, 2, process, word, &mut none)
 }
 
 // A page call.
@@ -174,12 +179,7 @@ pub extern "C" fn nq_page(
         (steppedIn (dayWith count event) (now (table .entry)) (Scan process) []) ⌝ }
 {
     let mut none = [0u32; 1];
-    reply_of(packed_table::step(
-        Day { count, event },
-        table,
-        Request::Scan(process),
-        &mut none,
-    ))
+    asked(Day { count, event }, table, 3, process, 0, &mut none)
 }
 
 // A turn, which lends a page list.
@@ -197,7 +197,7 @@ pub extern "C" fn nq_turn(
     ensures { λ r. ⌜ now (page .exit) ≡
         steppedIn (dayWith count event) (now (table .entry)) (Turn process) (now (page .entry)) .page ⌝ }
 {
-    reply_of(packed_table::step(Day { count, event }, table, Request::Turn(process), page))
+    asked(Day { count, event }, table, 4, process, 0, page)
 }
 
 fn record(kind: u32, process: u32, word: u32, next: u32) -> RecordNumbers

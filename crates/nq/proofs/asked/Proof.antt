@@ -1,14 +1,14 @@
--- `nq::nq_step` meets its contract.
+-- `nq::asked` meets its contract.
 use mathlib.Core.Path.{sym, ap, _∙_}
 use mathlib.Core.List.{[]}
 use Rattle.snapshot.specs.Replies.{replyOf}
 use Rattle.requests.specs.Requests.{pageAfter}
 use Rattle.packed_table.specs.Tables.{steppedIn, tableAfter}
-use Rattle.nq.specs.Replies.{dayWith, replyWith, replyNumbers}
+use Rattle.nq.specs.Replies.{replyWith, replyNumbers}
 use Rattle.nq.specs.Requests.{replyTo}
 use borrow.Author.Needs.{needs}
-use Rattle.nq.proofs.nq_step.Statement.{statement}
-use Rattle.nq.proofs.nq_step.Tie as tie
+use Rattle.nq.proofs.asked.Statement.{statement}
+use Rattle.nq.proofs.asked.Tie as tie
 
 is-kind-requires : tie.Need-is-kind-requires
 is-kind-requires c κs = search needs
@@ -35,7 +35,7 @@ returns c =
     let known = sym (at-if .before .is-kind .ensures) ∙ at-if .if1 .taken in
     let request = c .before .before .before .before .before .before .request-of .ensures in
     let said = c .before .before .before .before .step .ensures in
-    let d = dayWith (x .count) (x .event) in
+    let d = x .day in
     let t = x .table .now in
     let page = x .page .now in (
       rw known (c .reply-of .ensures ∙ ap (λ o. replyNumbers (o .day) (replyOf [] (o .answer))) (said .0)
@@ -57,11 +57,11 @@ returns-2 c =
     let at-if = c .before .before in
     let x = at-if .before .before .before .args in
     let none = sym (at-if .before .is-kind .ensures) ∙ at-if .if1 .left in
-    let number = c .reply .ensures ∙ ap (λ k. replyWith (dayWith (x .count) (x .event)) 0 k 0 0 0) (c .before .number .ensures) in
+    let number = c .reply .ensures ∙ ap (λ k. replyWith (x .day) 0 k 0 0 0) (c .before .number .ensures) in
     (rw none number, (rw none, rw none))
 
-pub nq-step-spec : {M : Type 1} → statement M
-nq-step-spec =
+pub asked-spec : {M : Type 1} → statement M
+asked-spec =
     tie.close
     (tie.spec
     is-kind-requires
