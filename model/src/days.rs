@@ -1,77 +1,27 @@
 //! Random days and deliberate schedules. A draft runs the model while it is written, so that a
 //! schedule knows which desks are busy and can place a write between two reads.
 
+mod full;
+mod lending;
+
+pub use full::{between_refused, full_day, long_file, pages_day, refused_records};
+pub use lending::{latest_day, lending_day};
+
 use crate::dayfile::{self, Record};
 use crate::random::Random;
-use crate::register::{Task, LAST_EVENT, PLACES};
+use crate::register::{Task, PLACES};
 use crate::runner::Register;
 
 /// A day of some hundred records, the same for the same seed; one in six is damaged.
 pub fn random_day(seed: u64) -> Vec<u8> {
-    let mut draft = Draft::new(seed);
-    if draft.random.once_in(4) {
-        draft.before_opening();
-    }
-    if !draft.random.once_in(50) {
-        let n = 1 + draft.random.below(PLACES) as u16;
-        draft.give(Record::Open { desks: n });
-    }
+    let mut draft = Draft::begun(seed);
     match (draft.n(), draft.random.below(4)) {
         (0, _) | (_, 0) => draft.anything(),
         (_, 1) => draft.paced(),
         (_, 2) => draft.longest(),
         _ => draft.nested(),
     }
-    let mut file = draft.file;
-    if draft.random.once_in(6) {
-        damage(&mut draft.random, &mut file);
-    }
-    file
-}
-
-/// A day for n desks up to the last event, then calls and turns of every desk. At its end there
-/// is a busy desk and an idle one; with one desk, it is `busy` or not.
-pub fn full_day(n: u16, busy: bool, seed: u64) -> Vec<u8> {
-    for seed in seed.. {
-        let mut draft = Draft::new(seed);
-        draft.give(Record::Open { desks: n });
-        let weights = draft.weights();
-        while draft.register.day.event < LAST_EVENT {
-            draft.paced_step(&weights);
-        }
-        let busy_desks = (1..=n).filter(|&desk| draft.busy(desk)).count();
-        let fits = match n {
-            1 => (busy_desks == 1) == busy,
-            _ => busy_desks > 0 && busy_desks < n as usize,
-        };
-        if fits {
-            for desk in 0..=n + 1 {
-                draft.give(Record::Page { desk });
-                draft.give(Record::Entry { desk, word: 7 });
-                draft.give(Record::Turn { desk });
-            }
-            draft.give(Record::Open { desks: n });
-            return draft.file;
-        }
-    }
-    unreachable!("some seed leaves a busy desk and an idle one")
-}
-
-/// A file of exactly `length` bytes for one desk, short and long records mixed, so that records
-/// lie across every edge in many ways.
-pub fn long_file(length: usize, seed: u64) -> Vec<u8> {
-    let mut draft = Draft::new(seed);
-    draft.give(Record::Open { desks: 1 });
-    while draft.file.len() < length {
-        let word = draft.word();
-        let record = match draft.random.below(2) {
-            0 => Record::Turn { desk: 1 },
-            _ => Record::Entry { desk: 1, word },
-        };
-        draft.give(record);
-    }
-    draft.file.truncate(length);
-    draft.file
+    draft.ended()
 }
 
 struct Draft {
@@ -83,6 +33,27 @@ struct Draft {
 impl Draft {
     fn new(seed: u64) -> Self {
         Draft { file: Vec::new(), register: Register::default(), random: Random::new(seed) }
+    }
+
+    /// A day that is opened, but for one in fifty.
+    fn begun(seed: u64) -> Self {
+        let mut draft = Draft::new(seed);
+        if draft.random.once_in(4) {
+            draft.before_opening();
+        }
+        if !draft.random.once_in(50) {
+            let n = 1 + draft.random.below(PLACES) as u16;
+            draft.give(Record::Open { desks: n });
+        }
+        draft
+    }
+
+    /// The day file, one in six of them damaged.
+    fn ended(mut self) -> Vec<u8> {
+        if self.random.once_in(6) {
+            damage(&mut self.random, &mut self.file);
+        }
+        self.file
     }
 
     fn n(&self) -> u16 {
@@ -207,16 +178,22 @@ impl Draft {
         if !self.random.once_in(20) {
             return;
         }
+        if let Some(record) = self.refusable() {
+            self.give(record);
+        }
+    }
+
+    /// A record that the open day refuses, or now and then none.
+    fn refusable(&mut self) -> Option<Record> {
         let (desk, word) = (self.desk(), self.word());
         let absent = desk == 0 || desk > self.n();
-        let record = match self.random.below(6) {
-            0 => Record::Open { desks: desk },
-            1 if absent || self.busy(desk) => Record::Page { desk },
-            2 if absent || self.busy(desk) => Record::Entry { desk, word },
-            _ if absent || !self.busy(desk) => Record::Turn { desk },
-            _ => return,
-        };
-        self.give(record);
+        match self.random.below(6) {
+            0 => Some(Record::Open { desks: desk }),
+            1 if absent || self.busy(desk) => Some(Record::Page { desk }),
+            2 if absent || self.busy(desk) => Some(Record::Entry { desk, word }),
+            _ if absent || !self.busy(desk) => Some(Record::Turn { desk }),
+            _ => None,
+        }
     }
 
     /// A task that needs every double collect: in each but the last another desk, not seen to move

@@ -1,8 +1,14 @@
 //! A model of the register, written from document 01 and Figure 3 alone, in the plainest way
-//! (`register`, `dayfile`, `runner`). It is the other side of the comparison with the proved
-//! register. `baseline` is a fast day runner, which is held to the model and measures speed alone.
+//! (`register`, `dayfile`, `runner`), and of the day's book, from document 02 and Figure 1 (`book`,
+//! `claims`, `automaton`). It is the other side of the comparison with the proved register.
+//! `baseline` is a fast day runner, which is held to the model and measures speed alone.
 
+pub mod automaton;
 pub mod baseline;
+pub mod book;
+pub mod book_counts;
+pub mod claims;
+pub mod comparison;
 pub mod counts;
 pub mod dayfile;
 pub mod days;

@@ -1,5 +1,5 @@
-//! The days that document 01 gives to check by hand, with what it states about them. Day I has
-//! 65,535 events and is made by `days::full_day`.
+//! The days that document 01 gives to check by hand, with what it states about them, and their books
+//! by document 02, worked out by hand. Day I has 65,535 events and is made by `days::full_day`.
 
 pub struct Case {
     pub name: &'static str,
@@ -7,6 +7,7 @@ pub struct Case {
     pub day: &'static str,
     /// Lines that the day prints, in this order. For A the paper states all.
     pub prints: &'static [&'static str],
+    pub book: &'static str,
 }
 
 pub const CASES: [Case; 9] = [
@@ -25,42 +26,55 @@ pub const CASES: [Case; 9] = [
             "refused 4",
             "end 7",
         ],
+        book: "4 entry 1 7\n6 page 1 words 7\nend 2\n",
     },
     Case {
         name: "B",
         day: include_str!("../../samples/b.txt"),
         prints: &["11 read 1", "21 page 1 from 2 at 16 turns 8 words 0 7", "end 21"],
+        book: "9 entry 2 7\n16 page 1 words 0 7\n19 entry 2 9\nend 3\n",
     },
     Case {
         name: "C",
         day: include_str!("../../samples/c.txt"),
         prints: &["11 read 1", "15 page 1 from 0 at 13 turns 8 words 0 0", "end 15"],
+        book: "9 entry 2 0\n13 page 1 words 0 0\nend 2\n",
     },
     Case {
         name: "D",
         day: include_str!("../../samples/d.txt"),
         prints: &["29 page 3 from 0 at 26 turns 12 words 5 6 0", "end 29"],
+        book: "10 entry 1 5\n18 entry 2 6\n26 page 3 words 5 6 0\nend 3\n",
     },
-    Case { name: "E", day: include_str!("../../samples/e.txt"), prints: &["open 8", "end 0"] },
+    Case {
+        name: "E",
+        day: include_str!("../../samples/e.txt"),
+        prints: &["open 8", "end 0"],
+        book: "end 0\n",
+    },
     Case {
         name: "F",
         day: include_str!("../../samples/f.txt"),
         prints: &["refused 1", "refused 1", "end 0"],
+        book: "end 0\n",
     },
     Case {
         name: "G",
         day: include_str!("../../samples/g.txt"),
         prints: &["open 2", "refused 2", "refused 2", "end 0"],
+        book: "end 0\n",
     },
     Case {
         name: "H",
         day: include_str!("../../samples/h.txt"),
         prints: &["5 page 1 from 0 at 3 turns 4 words 0 0", "end 5"],
+        book: "3 page 1 words 0 0\nend 1\n",
     },
     Case {
         name: "J",
         day: include_str!("../../samples/j.txt"),
         prints: &["refused 3", "refused 3", "3 page 1 from 0 at 2 turns 2 words 0", "end 3"],
+        book: "2 page 1 words 0\nend 1\n",
     },
 ];
 

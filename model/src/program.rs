@@ -1,5 +1,5 @@
-//! Another day runner, run as a program: what it prints for a day file, and how it behaves when
-//! input is slow or long, or when reading or writing fails.
+//! Another day runner, or maker of books, run as a program: what it prints for a day file, and how it
+//! behaves when input is slow or long, or when reading or writing fails.
 
 use crate::dayfile::{self, Record};
 use std::error::Error;
@@ -48,20 +48,19 @@ impl Program {
         printout(ended.map_err(|error| format!("{}: {error}", self.path.display()))?)
     }
 
+    /// How it ends on a file, with its message.
+    pub fn refused(&self, file: &[u8]) -> Result<Ended, Box<dyn Error>> {
+        ended(self.command().stdin(self.lay(file)?).stderr(Stdio::piped()).output()?)
+    }
+
     /// What it prints when the file arrives in pieces of `count` bytes.
     pub fn printed_slowly(&self, file: &[u8], count: usize) -> Result<Vec<u8>, Box<dyn Error>> {
-        let mut child = self.command().spawn()?;
-        let mut pipe = child.stdin.take().ok_or("no pipe")?;
-        thread::scope(|scope| {
-            scope.spawn(move || {
-                for bytes in file.chunks(count) {
-                    // The program may have ended at a refusal.
-                    let _ = pipe.write_all(bytes);
-                    thread::sleep(Duration::from_micros(100));
-                }
-            });
-            printout(child.wait_with_output()?)
-        })
+        printout(slowly(&mut self.command(), file, count)?)
+    }
+
+    /// How it ends then, with its message.
+    pub fn refused_slowly(&self, file: &[u8], count: usize) -> Result<Ended, Box<dyn Error>> {
+        ended(slowly(self.command().stderr(Stdio::piped()), file, count)?)
     }
 
     /// What it prints when it is stopped in the middle of a write and goes on: Linux then ends the
@@ -181,6 +180,22 @@ impl Drop for Program {
     }
 }
 
+/// Gives a file in pieces of `count` bytes.
+fn slowly(command: &mut Command, file: &[u8], count: usize) -> Result<Output, Box<dyn Error>> {
+    let mut child = command.spawn()?;
+    let mut pipe = child.stdin.take().ok_or("no pipe")?;
+    thread::scope(|scope| {
+        scope.spawn(move || {
+            for bytes in file.chunks(count) {
+                // The program may have ended at a refusal.
+                let _ = pipe.write_all(bytes);
+                thread::sleep(Duration::from_micros(100));
+            }
+        });
+        Ok(child.wait_with_output()?)
+    })
+}
+
 fn printout(output: Output) -> Result<Vec<u8>, Box<dyn Error>> {
     Ok(ended(output)?.printed)
 }
@@ -189,7 +204,7 @@ fn ended(output: Output) -> Result<Ended, Box<dyn Error>> {
     let message = String::from_utf8_lossy(&output.stderr).into_owned();
     match output.status.code() {
         Some(_) => Ok(Ended { printed: output.stdout, message }),
-        None => Err(format!("the runner was ended by {}", output.status).into()),
+        None => Err(format!("the program was ended by {}", output.status).into()),
     }
 }
 

@@ -1,5 +1,5 @@
--- What a run writes: `printed` of its file, however the reads cut it (`day-printed`); where a read fails, the lines of the records that
--- came whole (`day-cut-off`); and at any time a beginning of it (`day-begun`).
+-- What a run writes: `printed` of its file, however the reads cut it (`day-printed`); where a read fails, the lines of the records
+-- that came whole (`day-cut-off`); and at any time a beginning of it (`day-begun`).
 use Prim.Native.Nat.{ℕ, suc, _+_, _≤_, _<_}
 use native.Mathlib.Omega.{arith}
 use native.Mathlib.Nat.{le-refl}
@@ -9,10 +9,9 @@ use mathlib.Core.List.{List, [], _∷_, _++_, append-assoc, append-nil}
 use lib.ListN.{length, length-append}
 use Rattle.days.specs.Happenings.{dayOf}
 use Rattle.daylines.specs.Printed.{printed, printedUntil}
-use Rattle.streams.specs.Input.{Gave, came, interrupted, fault, filled}
+use Rattle.streams.specs.Input.{Gave, came, interrupted, fault, filled, Gives, ReadsFile, interruption, interruptions}
 use Rattle.laps.specs.Laps.{Stand, blankStand, ran}
-use Rattle.day_runner.specs.Passes.{given, afterPass, Did, LeadsTo, outputOf, IsRun}
-use Rattle.day_runner.specs.Passes.{Gives, ReadsFile, Taken, interruption, interruptions}
+use Rattle.day_runner.specs.Passes.{given, afterPass, Did, LeadsTo, outputOf, IsRun, gaveIn, Taken}
 use Rattle.laps.proofs.Printing.{prints, Closes, lasting, lasting-prints, Pays, closes, waits, expecting, expecting-prints}
 
 -- ---- the laps of a pass
@@ -87,7 +86,7 @@ data RunPays (s : Stand) (ps : List Did) (file rest : List ℕ) (t : Stand) : Ty
   ends : t .ended ≡ true → outputOf s ps ≡ prints false (s .box) (s .input .left ++ file) → RunPays s ps file rest t
   rests : t .ended ≡ false →
       ((f : Bool) → outputOf s ps ++ prints f (t .box) (t .input .left ++ rest) ≡ prints f (s .box) (s .input .left ++ file)) →
-      length ps + length rest ≤ length file + interruptions ps →
+      length ps + length rest ≤ length file + interruptions (gaveIn ps) →
       RunPays s ps file rest t
 
 -- no pass is made once all is done
@@ -114,7 +113,7 @@ module _ (q : Did) (ps : List Did) (s t : Stand) (file after rest : List ℕ) wh
   then-pays (rests e one fewer) p later = both-pay one fewer (later e)
 
 run-pays : (ps : List Did) (s t : Stand) → s .ended ≡ false → LeadsTo s ps t → Taken ps →
-    (file rest : List ℕ) → ReadsFile ps file rest → RunPays s ps file rest t
+    (file rest : List ℕ) → ReadsFile (gaveIn ps) file rest → RunPays s ps file rest t
 run-pays [] s t u p k file rest r =
     subst (RunPays s [] file rest) p
     (rests u (λ f. ap (λ bs. prints f (s .box) (s .input .left ++ bs)) (sym r)) (let e = ap length r in omega (arith, e)))
@@ -129,7 +128,7 @@ run-pays (q ∷ ps) s t u p k file rest r =
 -- for every file, every way in which its reads cut it, and an output that takes what it is given, the run ends, and what it has
 -- written is what the file prints
 pub day-printed : {most : ℕ} {t : Stand} (r : IsRun most t) (file rest : List ℕ) →
-    ReadsFile (r .did) file rest → Taken (r .did) → length file + interruptions (r .did) < most →
+    ReadsFile (gaveIn (r .did)) file rest → Taken (r .did) → length file + interruptions (gaveIn (r .did)) < most →
     (t .ended ≡ true) × (outputOf blankStand (r .did) ≡ printed file)
 unfolding dayOf
 day-printed {most} {t} r file rest reads taken enough = go (run-pays (r .did) blankStand t refl (r .passes) taken file rest reads)
@@ -140,7 +139,7 @@ day-printed {most} {t} r file rest reads taken enough = go (run-pays (r .did) bl
 
 -- before that, what it has written begins it
 pub day-begun : (ps : List Did) (t : Stand) → LeadsTo blankStand ps t → Taken ps →
-    (file rest : List ℕ) → ReadsFile ps file rest → (more : List ℕ) × (outputOf blankStand ps ++ more ≡ printed file)
+    (file rest : List ℕ) → ReadsFile (gaveIn ps) file rest → (more : List ℕ) × (outputOf blankStand ps ++ more ≡ printed file)
 unfolding dayOf
 day-begun ps t p taken file rest reads = go (run-pays ps blankStand t refl p taken file rest reads)
   where
@@ -150,7 +149,7 @@ day-begun ps t p taken file rest reads = go (run-pays ps blankStand t refl p tak
 
 -- a read that fails, once the bytes of `file` came, ends the run, which has written the lines of the records that came whole
 pub day-cut-off : (ps : List Did) (t : Stand) → LeadsTo blankStand ps t → t .ended ≡ false → Taken ps →
-    (file : List ℕ) → ReadsFile ps file [] →
+    (file : List ℕ) → ReadsFile (gaveIn ps) file [] →
     let last : List Did = record { gave = fault; went = true } ∷ [] in
     (afterPass t fault true .ended ≡ true) × (outputOf blankStand ps ++ outputOf t last ≡ printedUntil file)
 unfolding dayOf

@@ -1,12 +1,12 @@
--- The runner's passes: in each, one read gives bytes, the laps run on them, and their lines are written. What a read gives and whether
--- a write is taken is the system's; a pass is a function of it.
-use Prim.Native.Nat.{ℕ, _+_}
+-- The runner's passes: in each, one read gives bytes, the laps run on them, and their lines are written. What a read gives and
+-- whether a write is taken is the system's; a pass is a function of it.
+use Prim.Native.Nat.{ℕ}
 use mathlib.Core.Path.{_≡_}
 use mathlib.Core.Bool.{Bool, true, false, cond}
 use mathlib.Core.List.{List, [], _∷_, _++_}
 use lib.ListN.{length}
 use Rattle.streams.specs.System.{IsSent}
-use Rattle.streams.specs.Input.{Gave, came, interrupted, fault, filled}
+use Rattle.streams.specs.Input.{Gave, filled}
 use Rattle.laps.specs.Laps.{Stand, blankStand, ran}
 
 -- a run once a read gave g; the lines of the pass before it are gone
@@ -52,28 +52,12 @@ pub record IsRun (most : ℕ) (t : Stand) : Type 0 where
 
 -- ---- what is assumed of the system
 
--- a read gives the next bytes of a file, so that `after` is left, and none only at its end; one that is interrupted takes none
-abbrev pub Gives : Gave → (file after : List ℕ) → Type 0
-Gives (came c) file after = (file ≡ c ++ after) × (c ≡ [] → after ≡ [])
-Gives interrupted file after = file ≡ after
-Gives fault file after = ⊥
-
--- the reads of these passes give a file up to `rest`
-abbrev pub ReadsFile : List Did → (file rest : List ℕ) → Type 0
-ReadsFile [] file rest = file ≡ rest
-ReadsFile (p ∷ ps) file rest = (after : List ℕ) × (Gives (p .gave) file after × ReadsFile ps after rest)
+-- what the reads of these passes gave
+abbrev pub gaveIn : List Did → List Gave
+gaveIn [] = []
+gaveIn (p ∷ ps) = p .gave ∷ gaveIn ps
 
 -- their writes are taken
 abbrev pub Taken : List Did → Type 0
 Taken [] = Unit {0}
 Taken (p ∷ ps) = (p .went ≡ true) × Taken ps
-
--- how many of the reads were interrupted
-abbrev pub interruption : Gave → ℕ
-interruption (came c) = 0
-interruption interrupted = 1
-interruption fault = 0
-
-abbrev pub interruptions : List Did → ℕ
-interruptions [] = 0
-interruptions (p ∷ ps) = interruption (p .gave) + interruptions ps

@@ -1,8 +1,8 @@
-// The printed lines of the day runner: each is laid as text into a lent buffer.
+// The printed lines of a day and of its book: each is laid as text into a lent buffer.
 ghost use mathlib.Core.Path.{_≡_};
 ghost use Rattle.daytext.specs.Buffer.{laidPlace, laidText};
 
-// A printed line (document 01, Day files and the day runner). The words of a page lie in a slice beside it.
+// A printed line (document 01, Day files and the day runner; document 02, K1). The words of a page lie in a slice beside it.
 pub enum Line {
     // open COUNT
     Opened {
@@ -37,6 +37,11 @@ pub enum Line {
         lender: u32,
         at: u32,
         turns: u32,
+    },
+    // NUMBER page PROCESS words WORD ..
+    BookPage {
+        number: u32,
+        process: u32,
     },
     // refused NUMBER
     Refused {

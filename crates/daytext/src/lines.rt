@@ -40,6 +40,7 @@ pub fn body(line: Line, words: &[u32], out: &mut [u8], at: usize) -> usize
             at: instant,
             turns,
         } => page(n, process, lender, instant, turns, words, out, at),
+        Line::BookPage { number: n, process } => book_page(n, process, words, out, at),
         Line::Refused { number: n } => field(b"refused ", n, out, at),
         Line::End { event: n } => field(b"end ", n, out, at),
     }
@@ -120,4 +121,17 @@ fn page(
     let c = field(b" turns ", turns, out, b);
     let d = bytes(b" words", out, c);
     numbers(words, out, d)
+}
+
+// Lays a page as it stands in the book: its number and the process, then the words.
+fn book_page(n: u32, process: u32, words: &[u32], out: &mut [u8], at: usize) -> usize
+    requires { ⌜ length (now words) ≤ 8 ⌝ }
+    requires { ⌜ at + 255 ≤ length (now out) ⌝ }
+    ensures { λ r. ⌜ Laid (now (out .entry)) at (bodyOf (Line.BookPage n process) (now (words .entry))) (now (out .exit)) r ⌝ }
+    ensures { λ r. ⌜ r ≤ at + 255 ⌝ }
+{
+    let a = number(n, out, at);
+    let b = field(b" page ", process, out, a);
+    let c = bytes(b" words", out, b);
+    numbers(words, out, c)
 }

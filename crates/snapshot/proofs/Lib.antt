@@ -5,6 +5,7 @@ pub mod Works
 pub mod Admitted
 pub mod Demand3
 pub mod Stepped
+pub mod Keeping
 pub mod Booleans
 pub mod Causes
 pub mod Lists
@@ -16,3 +17,8 @@ pub mod Collects
 pub mod Attempts
 pub mod DoubleCollect
 pub mod Guards
+pub mod Placing
+pub mod Canonical
+pub mod Follows
+pub mod Booked
+pub mod SingleWriter

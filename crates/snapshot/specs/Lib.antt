@@ -8,3 +8,5 @@ pub mod Replies
 pub mod Lists
 pub mod Verdict
 pub mod Marks
+pub mod Canonical
+pub mod Book

@@ -2,6 +2,7 @@
 use Prim.Native.Nat.{ℕ, zero, suc}
 use mathlib.Core.Bool.{Bool, true, false, cond, _&&_, _||_}
 use mathlib.Core.List.{List, [], _∷_, _++_}
+use lib.Dec.{leb}
 use lib.ListN.{take, drop}
 
 -- the first n places of a over those of b; the places of b past n stay
@@ -35,3 +36,28 @@ everyFrom f (suc k) j = f j && everyFrom f k (suc j)
 abbrev pub someOf : {A : Type 0} → (A → Bool) → List A → Bool
 someOf f [] = false
 someOf f (x ∷ xs) = f x || someOf f xs
+
+-- the elements that pass the test, in their order
+abbrev pub keep : {A : Type 0} → (A → Bool) → List A → List A
+keep f [] = []
+keep f (x ∷ xs) = cond (f x) (x ∷ keep f xs) (keep f xs)
+
+-- P of every element
+abbrev pub All : {A : Type 0} → (A → Type 0) → List A → Type 0
+All P [] = Unit {0}
+All P (x ∷ xs) = P x × All P xs
+
+-- R of every element and each that stands behind it
+abbrev pub Pairs : {A : Type 0} → (A → A → Type 0) → List A → Type 0
+Pairs R [] = Unit {0}
+Pairs R (x ∷ xs) = All (R x) xs × Pairs R xs
+
+-- x behind every element whose number is not above its own
+abbrev pub place : {A : Type 0} → (number : A → ℕ) → A → List A → List A
+place number x [] = x ∷ []
+place number x (y ∷ ys) = cond (leb (number y) (number x)) (y ∷ place number x ys) (x ∷ y ∷ ys)
+
+-- each of xs in its place, one after the other, among ys
+abbrev pub places : {A : Type 0} → (number : A → ℕ) → List A → List A → List A
+places number [] ys = ys
+places number (x ∷ xs) ys = places number xs (place number x ys)

@@ -5,9 +5,9 @@ use mathlib.Core.List.{List, [], _∷_}
 use mathlib.Core.Option.{Option, none, some}
 use Rattle.snapshot.specs.declared.Refusal.{Refusal}
 use Rattle.snapshot.specs.declared.Refusal.the-variants.{CountRange, ProcessRange, Busy, Idle, DayFull, LentSize}
-use Rattle.snapshot.specs.declared.Refusal.the-variants.{CutShort, UnknownKind, WrongLength, OpenState, CannotArise}
+use Rattle.snapshot.specs.declared.Refusal.the-variants.{CutShort, UnknownKind, WrongLength, OpenState, CannotArise, RoomShort}
 
--- the number of a refusal (document 01, Reasons to refuse, column Number)
+-- the number of a refusal (document 01, Reasons to refuse, column Number; document 02, 12 in K1)
 abbrev pub numberOf : Refusal → ℕ
 numberOf CountRange = 1
 numberOf ProcessRange = 2
@@ -20,6 +20,7 @@ numberOf UnknownKind = 8
 numberOf WrongLength = 9
 numberOf OpenState = 10
 numberOf CannotArise = 11
+numberOf RoomShort = 12
 
 -- a cause: whether it holds, and the refusal it leads to
 abbrev pub Cause : Type 0

@@ -18,7 +18,7 @@ pub enum Request {
     Turn(u32),
 }
 
-// Why an item is refused. Document 01 knows these by their numbers.
+// Why an item is refused, or more is asked than there is room for. The papers know these by their numbers.
 pub enum Refusal {
     CountRange,
     ProcessRange,
@@ -31,6 +31,7 @@ pub enum Refusal {
     WrongLength,
     OpenState,
     CannotArise,
+    RoomShort,
 }
 
 // The answer to an item. The words of a page lie in the lent page list.
@@ -56,7 +57,7 @@ pub fn blank() -> Day
     Day { count: 0, event: 0 }
 }
 
-// The number that document 01 gives to a refusal.
+// The number that the papers give to a refusal.
 pub fn number(r: Refusal) -> u32
     ensures { λ k. ⌜ k ≡ numberOf r ⌝ }
 {
@@ -72,6 +73,7 @@ pub fn number(r: Refusal) -> u32
         Refusal::WrongLength => 9,
         Refusal::OpenState => 10,
         Refusal::CannotArise => 11,
+        Refusal::RoomShort => 12,
     }
 }
 

@@ -1,5 +1,5 @@
-// The input buffer: the bytes from `at` up to `end` are still to be read. `last` says that no more will come, and `failed` that this
-// is because a read failed.
+// The input buffer: the bytes from `at` up to `end` are still to be read. `last` says that no more will come, and `failed` that
+// this is because a read failed.
 use crate::system;
 use crate::system::Transfer;
 use libc::STDIN_FILENO;
@@ -8,7 +8,7 @@ ghost use Prim.Native.Nat.{_+_, _-_, _≤_, _<_, _^_};
 ghost use lib.ListN.{length, take, drop};
 ghost use Rattle.snapshot.specs.Lists.{over};
 ghost use Rattle.streams.specs.System.{AtMost};
-ghost use Rattle.streams.specs.Input.{Within, inputBy, IsRefill};
+ghost use Rattle.streams.specs.Input.{Within, inputBy, IsRefill, IsWhole};
 
 pub struct Input {
     pub at: usize,
@@ -78,4 +78,25 @@ pub fn refill(bytes: &mut [u8], from: Input, what: &[u8]) -> Input
     shift(bytes, at, kept);
     let t = read_at(bytes, kept, what);
     input_by(kept, t)
+}
+
+// Reads until the input ends, a read fails, or the buffer is full; `what` begins the message of a read that fails. A read that was
+// interrupted is made again; nothing says how often that can be, so the loop counts its reads down from a number that none uses up.
+pub fn whole(bytes: &mut [u8], what: &[u8]) -> Input
+    ensures { λ i. ⌜ IsWhole i (now (bytes .exit)) ⌝ }
+{
+    let mut input = Input {
+        at: 0,
+        end: 0,
+        last: false,
+        failed: false,
+    };
+    let mut reads = u64::MAX;
+    while !input.last && input.end < bytes.len() && reads > 0 {
+        let end = input.end;
+        let t = read_at(bytes, end, what);
+        input = input_by(end, t);
+        reads -= 1;
+    }
+    input
 }

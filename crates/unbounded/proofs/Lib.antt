@@ -8,6 +8,7 @@ pub mod Scanning
 pub mod Ties
 pub mod Deeds
 pub mod Demand3
+pub mod Book
 pub mod Emptied
 pub mod Whole
 pub mod PlacesPast

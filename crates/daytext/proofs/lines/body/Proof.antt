@@ -47,14 +47,20 @@ page-requires c κs = search needs
 enum-known-line-7 : tie.Need-enum-known-line-7
 enum-known-line-7 c = search needs
 
+book-page-requires : tie.Need-book-page-requires
+book-page-requires c κs = search needs
+
+enum-known-line-8 : tie.Need-enum-known-line-8
+enum-known-line-8 c = search needs
+
 slice-aggregate-field-2 : tie.Need-slice-aggregate-field-2
 slice-aggregate-field-2 c = search needs
 
 field-requires-2 : tie.Need-field-requires-2
 field-requires-2 c κs = search needs
 
-enum-known-line-8 : tie.Need-enum-known-line-8
-enum-known-line-8 c = search needs
+enum-known-line-9 : tie.Need-enum-known-line-9
+enum-known-line-9 c = search needs
 
 slice-aggregate-field-3 : tie.Need-slice-aggregate-field-3
 slice-aggregate-field-3 c = search needs
@@ -123,7 +129,7 @@ returns-7 : tie.Need-returns-7
 unfolding bodyOf
 returns-7 c =
     let at-call = c .before .before in
-    (rw (at-call .before .before .before .before .line7 .given .1) (simp append-nil (at-call .field2 .ensures .0)), search needs)
+    (rw (at-call .before .before .before .line7 .given .1) (at-call .book-page .ensures .0), search needs)
 
 same-length-8 : tie.Need-same-length-8
 same-length-8 c = search needs
@@ -132,7 +138,16 @@ returns-8 : tie.Need-returns-8
 unfolding bodyOf
 returns-8 c =
     let at-call = c .before .before in
-    (rw (at-call .before .before .before .before .line8 .given .1) (simp append-nil (at-call .field3 .ensures .0)), search needs)
+    (rw (at-call .before .before .before .before .line8 .given .1) (simp append-nil (at-call .field2 .ensures .0)), search needs)
+
+same-length-9 : tie.Need-same-length-9
+same-length-9 c = search needs
+
+returns-9 : tie.Need-returns-9
+unfolding bodyOf
+returns-9 c =
+    let at-call = c .before .before in
+    (rw (at-call .before .before .before .before .line9 .given .1) (simp append-nil (at-call .field3 .ensures .0)), search needs)
 
 pub body-spec : {M : Type 1} → statement M
 body-spec =
@@ -152,9 +167,11 @@ body-spec =
     enum-known-line-6
     page-requires
     enum-known-line-7
+    book-page-requires
+    enum-known-line-8
     slice-aggregate-field-2
     field-requires-2
-    enum-known-line-8
+    enum-known-line-9
     slice-aggregate-field-3
     field-requires-3
     same-length
@@ -172,4 +189,6 @@ body-spec =
     same-length-7
     returns-7
     same-length-8
-    returns-8)
+    returns-8
+    same-length-9
+    returns-9)

@@ -1,0 +1,200 @@
+// A pass over a day file: each record is read and asked of the table, and what it finishes is put in the book.
+use crate::places;
+use dayfile::Reading;
+use memory::table;
+use snapshot::Answer;
+use snapshot::Day;
+use snapshot::Outcome;
+use snapshot::Request;
+ghost use mathlib.Core.Path.{_≡_};
+ghost use Prim.Native.Nat.{_<_, _≤_, _-_, _^_};
+ghost use mathlib.Core.Bool.{not};
+ghost use lib.ListN.{length, take, replicate};
+ghost use Rattle.book.specs.Notes.{wordOf, wordsWith, wordsAfter, countAfter, bookAfter};
+ghost use Rattle.book.specs.Passes.{blankNotes, nextAfter, Consumes, notesPast, bookPast, Passed};
+
+// How far a pass has come: the day, the place of the next record and the end of the file, whether all is done, how many operations
+// are finished, and for each process the word of its last update call.
+pub struct Notes {
+    pub day: Day,
+    pub at: usize,
+    pub end: usize,
+    pub ended: bool,
+    pub count: usize,
+    pub words: [u32; 8],
+}
+
+// The word of a process's last update call.
+fn word_of(words: [u32; 8], process: u32) -> u32
+    ensures { λ w. ⌜ w ≡ wordOf words process ⌝ }
+{
+    if process < 1 {
+        return 0;
+    }
+    if 8 < process {
+        return 0;
+    }
+    words[(process - 1) as usize]
+}
+
+// The words once a process's is another.
+fn with_word(words: [u32; 8], process: u32, word: u32) -> [u32; 8]
+    ensures { λ ws. ⌜ ws ≡ wordsWith words process word ⌝ }
+{
+    if process < 1 {
+        return words;
+    }
+    if 8 < process {
+        return words;
+    }
+    let mut after = words;
+    after[(process - 1) as usize] = word;
+    after
+}
+
+// The words after a request and its answer.
+fn words_after(words: [u32; 8], r: Request, a: Answer) -> [u32; 8]
+    ensures { λ ws. ⌜ ws ≡ wordsAfter words r a ⌝ }
+{
+    let Answer::Called = a else {
+        return words;
+    };
+    match r {
+        Request::Open(_) => words,
+        Request::Update { process, word } => with_word(words, process, word),
+        Request::Scan(_) => words,
+        Request::Turn(_) => words,
+    }
+}
+
+// Puts what an answer finishes in the book, if it finishes something, and answers how many operations are finished then.
+fn finished(
+    words: [u32; 8],
+    count: usize,
+    r: Request,
+    o: Outcome,
+    page: &[u32],
+    book: &mut [[u32; 11]],
+) -> usize
+    requires { ⌜ count < 2 ^ 64 - 1 ⌝ }
+    ensures { λ k. ⌜ k ≡ countAfter count (o .answer) ⌝ }
+    ensures { λ _. ⌜ now (book .exit) ≡
+        bookAfter words count r (o .day .event)
+        (take (o .day .count) (now (page .entry))) (now (book .entry)) (o .answer) ⌝ }
+{
+    let process = snapshot::number_in(r);
+    let day = o.day;
+    let answer = o.answer;
+    match answer {
+        Answer::Refused(_) => count,
+        Answer::Opened => count,
+        Answer::Called => count,
+        Answer::Read => count,
+        Answer::Page {
+            lender: _,
+            at,
+            turns: _,
+        } => {
+            places::put(
+                places::page(at, process, page, day.count as usize),
+                book,
+                count,
+            );
+            count + 1
+        }
+        Answer::Written { turns: _ } => {
+            places::put(
+                places::entry(day.event, process, word_of(words, process)),
+                book,
+                count,
+            );
+            count + 1
+        }
+    }
+}
+
+// The beginning of a pass over a file of that many bytes.
+fn start(end: usize) -> Notes
+    ensures { λ s. ⌜ s ≡ blankNotes end ⌝ }
+{
+    Notes {
+        day: snapshot::blank(),
+        at: 0,
+        end,
+        ended: false,
+        count: 0,
+        words: [0; 8],
+    }
+}
+
+// Whether there is another record to look for.
+fn goes(s: Notes) -> bool
+    ensures { λ b. ⌜ b ≡ not (s .ended) ⌝ }
+{
+    !s.ended
+}
+
+// The next record of the file, or how it ends.
+fn next_of(s: Notes, bytes: &[u8]) -> Reading
+    requires { ⌜ s .at ≤ s .end × s .end ≤ length (now bytes) ⌝ }
+    ensures { λ x. ⌜ (x ≡ nextAfter s (now (bytes .entry))) × Consumes x s ⌝ }
+{
+    let at = s.at;
+    let end = s.end;
+    dayfile::read(&bytes[at..end])
+}
+
+// The notes once what was read has happened. A refusal of the reader ends the file.
+fn noted(s: Notes, x: Reading, o: Outcome, page: &[u32], book: &mut [[u32; 11]]) -> Notes
+    requires { ⌜ Consumes x s × s .count ≤ s .at ⌝ }
+    ensures { λ t. ⌜ t ≡ notesPast s x o ⌝ }
+    ensures { λ _. ⌜ now (book .exit) ≡
+        bookPast s x o (take (o .day .count) (now (page .entry))) (now (book .entry)) ⌝ }
+{
+    let words = s.words;
+    let day = o.day;
+    let answer = o.answer;
+    let Reading::Found { record, next } = x else {
+        return Notes {
+            day,
+            at: s.at,
+            end: s.end,
+            ended: true,
+            count: s.count,
+            words,
+        };
+    };
+    let count = finished(words, s.count, record, o, page, book);
+    Notes {
+        day,
+        at: s.at + next,
+        end: s.end,
+        ended: false,
+        count,
+        words: words_after(words, record, answer),
+    }
+}
+
+// Reads the records of a file, asks each of the table, and puts what it finishes in the book. `s` is the beginning.
+fn run(s: Notes, bytes: &[u8], book: &mut [[u32; 11]], page: &mut [u32]) -> Notes
+    requires { ⌜ s ≡ blankNotes (length (now bytes)) ⌝ }
+    ensures { λ t. ⌜ Passed t (now (bytes .entry)) (now (page .entry)) (now (book .entry)) (now (book .exit)) ⌝ }
+{
+    let mut table = table::blank();
+    let mut notes = s;
+    while goes(notes) {
+        let x = next_of(notes, bytes);
+        let n = days::lent_to(notes.day, days::request_of(x));
+        let o = days::asked(notes.day, &mut table[..n], x, page);
+        notes = noted(notes, x, o, page, book);
+    }
+    notes
+}
+
+// A pass over a file, with a page list of its own.
+pub fn pass(bytes: &[u8], book: &mut [[u32; 11]]) -> Notes
+    ensures { λ t. ⌜ Passed t (now (bytes .entry)) (replicate 8 0) (now (book .entry)) (now (book .exit)) ⌝ }
+{
+    let mut page = [0u32; 8];
+    run(start(bytes.len()), bytes, book, &mut page)
+}
