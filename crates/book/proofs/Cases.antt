@@ -44,6 +44,18 @@ caseB =
     ++ (layout (Update 2 9) ++ turns 5 2)
     ++ turns 2 1
 
+-- one entry's view lent twice: two pages at one number, of which process 2's is answered first
+abbrev lentTwice : List ℕ
+lentTwice =
+    layout (Open 3)
+    ++ (layout (Scan 1) ++ layout (Scan 2))
+    ++ (turns 3 1 ++ turns 3 2)
+    ++ (layout (Update 3 5) ++ turns 7 3)
+    ++ (turns 3 1 ++ turns 3 2)
+    ++ (turns 3 1 ++ turns 3 2)
+    ++ (layout (Update 3 6) ++ turns 7 3)
+    ++ (turns 3 2 ++ turns 3 1)
+
 abbrev zeros : ℕ → List ℕ
 zeros k = replicate k 0
 
@@ -60,8 +72,21 @@ pub books :
     × (booked (layout (Turn 1) ++ layout (Open 9) ++ caseA) ≡ placesA)
     × (booked (caseA ++ (4 ∷ [])) ≡ placesA)
     × (booked [] ≡ [])
+    × (booked lentTwice
+    ≡ (16 ∷ 2 ∷ 3 ∷ 5 ∷ zeros 7)
+    ∷ (32 ∷ 3 ∷ 2 ∷ 0 ∷ 0 ∷ 5 ∷ zeros 5)
+    ∷ (32 ∷ 3 ∷ 1 ∷ 0 ∷ 0 ∷ 5 ∷ zeros 5)
+    ∷ (36 ∷ 2 ∷ 3 ∷ 6 ∷ zeros 7)
+    ∷ [])
 unfolding bookIn dayOf readings readingsUpTo reading recordOf lengthOf lentTo Days.stepped step verdict laid readInto cleared pageOf differs isMoved withMoved lends begin position placeAt firstAfter secondAfter endAfter decision marksAfter afterRead foundBy written turned mostReads isFull unsound refusal advance openedBy calledBy turnBy accept
-books = (refl, refl, refl, refl, refl)
+books = (refl, refl, refl, refl, refl, refl)
+
+-- the numbers of the call, the place and the answer of each operation
+pub numbers :
+    map (λ o. o .called ∷ o .number ∷ o .answered ∷ []) (bookIn caseB)
+    ≡ (4 ∷ 9 ∷ 9 ∷ []) ∷ (1 ∷ 16 ∷ 21 ∷ []) ∷ (14 ∷ 19 ∷ 19 ∷ []) ∷ []
+unfolding bookIn dayOf readings readingsUpTo reading recordOf lengthOf lentTo Days.stepped step verdict laid readInto cleared pageOf differs isMoved withMoved lends begin position placeAt firstAfter secondAfter endAfter decision marksAfter afterRead foundBy written turned mostReads isFull unsound refusal advance openedBy calledBy turnBy accept
+numbers = refl
 
 -- a book of one place is too short for case A, and the place behind its two stays as it is
 pub rooms :

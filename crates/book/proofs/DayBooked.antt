@@ -8,20 +8,25 @@ use mathlib.Core.Option.{none}
 use lib.ListN.{replicate}
 use Rattle.snapshot.specs.Lists.{All}
 use Rattle.snapshot.specs.Canonical.{OwnAddress}
-use Rattle.snapshot.specs.Book.{memoryOf, IsBooked}
+use Rattle.snapshot.specs.Book.{book, memoryOf, IsBooked}
 use Rattle.snapshot.proofs.Booked.{follows-booked, started-memory}
 use Rattle.snapshot.proofs.SingleWriter.{OwnSeen, OwnHeld, sees-own, run-own, said-own}
 use Rattle.requests.specs.Requests.{itemOf}
 use Rattle.unbounded.specs.Days.{mostTurns}
 use Rattle.days.specs.Asking.{requestOf}
 use Rattle.days.specs.Happenings.{Happening, dayOf, recordsIn}
-use Rattle.book.specs.DayBooks.{heardOf, heardIn, processesIn, startOf, finishedIn, saidIn, endOf}
+use Rattle.book.specs.DayBooks.{heardOf, heardIn, processesIn, startOf, finishedIn, saidIn, endOf, bookIn}
 use Rattle.book.proofs.DayFollows.{day-follows}
 
 pub day-booked : (bs : List ℕ) → IsBooked (processesIn bs) (λ w. w) (startOf bs) (endOf bs) (finishedIn bs) (saidIn bs)
 day-booked bs =
     let n = processesIn bs in
     follows-booked n n 0 (λ w. w) (mostTurns n) (λ e w. w) (λ e w. refl) (heardIn bs) (day-follows bs)
+
+-- that book is the one that is written
+pub day-book : (bs : List ℕ) → bookIn bs ≡ book (finishedIn bs)
+unfolding bookIn
+day-book bs = refl
 
 -- it begins with zeros, and nobody waiting
 pub day-begins : (bs : List ℕ) → memoryOf (λ w. w) (startOf bs) ≡ record { Mem = replicate (processesIn bs) 0; H = λ i. none }

@@ -173,9 +173,9 @@ module _ (n : ℕ) (few : n ≤ 8) (before : List (List ℕ)) where
 
   -- an operation more
   module _ {t : Tally ℕ} {b : List Operation} {s : Noted} (i : Tied t b s) (ws : List ℕ) (d : ℕ) (m : Among n d) (o : Operation) where
-    answered-tied : (e : ℕ) → Tied (advanced t ws d none) (place (λ x. x .number) o b)
+    answered-tied : Tied (advanced t ws d none) (place (λ x. x .number) o b)
         (record { words = s .words; count = s .count + 1; book = putIn (placeOf o) (s .count) (s .book) })
-    answered-tied e =
+    answered-tied =
         record {
           sane = sane-advanced (i .sane) ws d m none;
           count = ap (λ k. k + 1) (i .count) ∙ sym (length-place (λ x. x .number) o b);
@@ -273,7 +273,7 @@ module _ (n : ℕ) (few : n ≤ 8) (before : List (List ℕ)) where
         subst (λ p. Tied (advanced t (t .words) d none) (place (λ o. o .number) o b)
         (record { words = s .words; count = s .count + 1; book = putIn p (s .count) (s .book) }))
         (ap (λ j. at ∷ kindOf j ∷ d ∷ eight (wordsOf (map (λ w. w) shown) j)) (f .0) ∙ ap (λ ws. at ∷ 3 ∷ d ∷ eight ws) (map-same shown))
-        (answered-tied i (t .words) d m o e)
+        (answered-tied i (t .words) d m o)
 
     written-tied : (d turns : ℕ) (c : Option Call) → callOf t d ≡ c → Among n d → WrittenFits (mostTurns n) turns c → e ≡ suc (t .event) →
         Tied (advanced t (putsIf (λ w. w) (t .words) c) d none) (places (λ o. o .number) (operations d [] (suc (t .event)) (suc (t .event)) c) b)
@@ -292,7 +292,7 @@ module _ (n : ℕ) (few : n ≤ 8) (before : List (List ℕ)) where
             (record { words = s .words; count = s .count + 1; book = putIn p (s .count) (s .book) }))
             (ap (λ j. suc (t .event) ∷ kindOf j ∷ d ∷ eight (wordsOf [] j)) u
             ∙ ap₂ {C = List ℕ} (λ k w. k ∷ 2 ∷ d ∷ eight (w ∷ [])) (sym now) (sym (i .kept d c k w m q u)))
-            (answered-tied i (puts (λ w. w) (t .words) (c .job)) d m o e)
+            (answered-tied i (puts (λ w. w) (t .words) (c .job)) d m o)
 
     record-tied : (r : Request) (a : Answer) → TiedWith r a
     unfolding wordsAfter countAfter bookAfter
@@ -317,7 +317,7 @@ module _ (n : ℕ) (few : n ≤ 8) (before : List (List ℕ)) where
   file-tied : (xs : List Reading) (x : Box) (t : Tally ℕ) (b : List Operation) (s : Noted) → Tied t b s →
       let hs = recordsIn (happenings x xs) in
       Follows n (mostTurns n) (λ e w. w) t (map heardOf hs) → Numbered t hs →
-      Tied (tallyAfter (λ e w. w) (λ w. w) t (map heardOf hs)) (places (λ o. o .number) (finished (λ e w. w) (λ w. w) t (map heardOf hs)) b)
+      Tied (tallyAfter (λ e w. w) t (map heardOf hs)) (places (λ o. o .number) (finished (λ e w. w) (λ w. w) t (map heardOf hs)) b)
       (notes s (happenings x xs))
   unfolding wordsAfter countAfter bookAfter
   file-tied [] x t b s i f q = i
@@ -329,7 +329,7 @@ module _ (n : ℕ) (few : n ≤ 8) (before : List (List ℕ)) where
       let a = h .outcome .answer in
       let u = tally-with t y a in
       let hs = map heardOf (recordsIn (happenings (boxAfter x (Found r next)) xs)) in
-      subst (λ z. Tied (tallyAfter (λ e w. w) (λ w. w) u hs) z (notes (noteOf s h) (happenings (boxAfter x (Found r next)) xs)))
+      subst (λ z. Tied (tallyAfter (λ e w. w) u hs) z (notes (noteOf s h) (happenings (boxAfter x (Found r next)) xs)))
       (sym (places-append (λ o. o .number) (finishedBy (λ w. w) t y (h .words) a) (finished (λ e w. w) (λ w. w) u hs) b))
       (file-tied xs (boxAfter x (Found r next)) u (book-with t b y (h .words) a) (noteOf s h)
       (record-tied i (h .outcome .day .event) (h .words) r a (f .0) (q .0)) (f .1) (q .1))

@@ -33,7 +33,7 @@ abbrev pub saidIn : List ℕ → List Timed
 saidIn bs = said (λ e w. w) (λ w. w) (startOf bs) (heardIn bs)
 
 abbrev pub endOf : List ℕ → Tally ℕ
-endOf bs = tallyAfter (λ e w. w) (λ w. w) (startOf bs) (heardIn bs)
+endOf bs = tallyAfter (λ e w. w) (startOf bs) (heardIn bs)
 
 -- the book
 unfoldable pub bookIn : List ℕ → List Operation

@@ -1,7 +1,7 @@
 -- What is laid of an input: the text of its book, where its places were written.
 use Prim.Native.Nat.{ℕ, _+_, _≤_}
 use native.Mathlib.Omega.{arith}
-use mathlib.Core.Path.{_≡_, refl, ap, ap₂, subst, _∙_}
+use mathlib.Core.Path.{_≡_, refl, ap, ap₂, _∙_}
 use mathlib.Core.Bool.{Bool, true, false, cond}
 use mathlib.Core.List.{List, [], _++_, map}
 use lib.Dec.{ltb}
@@ -22,7 +22,7 @@ use Rattle.booklines.specs.BookText.{bookText}
 use Rattle.booklines.specs.PlaceText.{laidBook}
 use Rattle.booklines.proofs.Operations.{laid-book-text}
 use Rattle.streams.specs.Input.{Incoming}
-use Rattle.day_book.specs.Runs.{LinesFit, bookOf, writtenOf, IsBookRun}
+use Rattle.day_book.specs.Runs.{LinesFit, bookOf, writtenOf}
 
 -- what lies at the start of a buffer once it is laid there
 pub laid-start : {out text after : List ℕ} {r : ℕ} → Laid out 0 text after r → (take r after ≡ text) × (r ≤ length after)
@@ -91,7 +91,3 @@ module _ (places : ℕ) (i : Incoming) where
 pub room-enough : (places : List (List ℕ)) (out : List ℕ) → length places ≡ 21845 → length out ≡ 2643501 →
     LinesFit (length places) (length out)
 room-enough places out few wide = record { few = omega arith; wide = omega arith }
-
-pub run-sized : {size places : ℕ} {went : Bool} → IsBookRun size places went → size ≡ 2097153 → places ≡ 21845 → IsBookRun 2097153 21845 went
-run-sized {places = places} {went = went} r long few =
-    subst (λ k. IsBookRun 2097153 k went) few (subst (λ k. IsBookRun k places went) long r)

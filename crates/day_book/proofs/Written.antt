@@ -1,5 +1,6 @@
--- What a run writes: the text of the book of its file, however the reads cut it (`book-printed`), and of a longer file nothing
--- (`long-unprinted`). `day-book-printed` and `day-book-refused` say it of the program as it is shipped.
+-- What a run leaves in the buffer that it hands to the system: the text of the book of its file, however the reads cut it
+-- (`book-printed`), and of a longer file, or where a read fails, nothing (`long-unprinted`, `unread-unprinted`). `day-book-printed` and
+-- `day-book-refused` say it for the buffers of the program as it is shipped.
 use Prim.Native.Nat.{ℕ, _+_, _-_, _^_, _≤_, _<_}
 use native.Mathlib.Omega.{arith}
 use mathlib.Core.Path.{_≡_, ap, subst, _∙_}
@@ -11,40 +12,48 @@ use Rattle.book.specs.DayBooks.{bookIn}
 use Rattle.book.proofs.Fits.{book-fits}
 use Rattle.booklines.specs.BookText.{bookText}
 use Rattle.streams.specs.System.{IsSent}
-use Rattle.streams.specs.Input.{ReadsFile, interruptions}
+use Rattle.texts.specs.Laying.{Laid}
+use Rattle.streams.specs.Input.{ReadsFile, interruptions, incoming}
 use Rattle.streams.proofs.Whole.{whole-file, whole-full}
 use Rattle.day_book.specs.Runs.{writtenOf, IsBookRun}
 use Rattle.day_book.proofs.Inputs.{cut-unwritten, unread-unwritten}
 
-module _ {size places : ℕ} {went : Bool} (r : IsBookRun size places went) (file rest : List ℕ)
-    (reads : ReadsFile (r .whole .gave) file rest) (enough : length file + interruptions (r .whole .gave) < 2 ^ 64 - 1) where
-  -- for every file that leaves a byte of the buffer, and every way in which its reads cut it
-  pub book-printed : length file < size → length (bookIn file) ≤ places → IsSent (bookText (bookIn file)) went
-  unfolding writtenOf
-  book-printed short few =
-      let long = r .long in
-      let here = whole-file (r .whole) file rest reads enough (omega arith) in
-      let all = ap (λ b. cond b [] (bookText (bookIn file))) (le-ltb _ _ few) in
-      subst (λ t. IsSent t went) (ap (writtenOf places) here ∙ all) (r .sent)
+-- what a run leaves at the start of its buffer, and hands to the system
+abbrev pub Prints : (text before out : List ℕ) (end : ℕ) (went : Bool) → Type 0
+Prints text before out end went = Laid before 0 text out end × IsSent text went
 
-  pub long-unprinted : size ≤ length file → IsSent [] went
-  long-unprinted over =
-      let long = r .long in
-      let full = whole-full (r .whole) file rest reads enough (omega arith) in
-      subst (λ t. IsSent t went) (cut-unwritten places _ (full .2) (full .1)) (r .sent)
+module _ {places : ℕ} {bytes before out : List ℕ} {went : Bool} (r : IsBookRun places bytes before out went) where
+  as-text : (text : List ℕ) → writtenOf places (incoming (r .input) bytes) ≡ text → Prints text before out (r .end) went
+  as-text text is = subst (λ t. Prints t before out (r .end) went) is (r .laid, r .sent)
 
--- where a read fails, nothing
-pub unread-unprinted : {size places : ℕ} {went : Bool} (r : IsBookRun size places went) → r .input .failed ≡ true → IsSent [] went
-unread-unprinted {places = places} {went = went} r failed = subst (λ t. IsSent t went) (unread-unwritten places _ failed) (r .sent)
+  -- where a read fails, nothing
+  pub unread-unprinted : r .input .failed ≡ true → Prints [] before out (r .end) went
+  unread-unprinted failed = as-text [] (unread-unwritten places _ failed)
 
--- ---- the program
+  module _ (file rest : List ℕ) (reads : ReadsFile (r .whole .gave) file rest)
+      (enough : length file + interruptions (r .whole .gave) < 2 ^ 64 - 1) where
+    -- for every file that leaves a byte of the buffer, and every way in which its reads cut it
+    pub book-printed : length file < length bytes → length (bookIn file) ≤ places → Prints (bookText (bookIn file)) before out (r .end) went
+    unfolding writtenOf
+    book-printed short few =
+        let here = whole-file (r .whole) file rest reads enough short in
+        let all = ap (λ b. cond b [] (bookText (bookIn file))) (le-ltb _ _ few) in
+        as-text (bookText (bookIn file)) (ap (writtenOf places) here ∙ all)
 
-module _ {went : Bool} (r : IsBookRun 2097153 21845 went) (file rest : List ℕ) (reads : ReadsFile (r .whole .gave) file rest)
+    pub long-unprinted : length bytes ≤ length file → Prints [] before out (r .end) went
+    long-unprinted over =
+        let full = whole-full (r .whole) file rest reads enough over in
+        as-text [] (cut-unwritten places _ (full .2) (full .1))
+
+-- ---- the program: a buffer of 2,097,153 bytes, and 21,845 places
+
+module _ {bytes before out : List ℕ} {went : Bool} (r : IsBookRun 21845 bytes before out went) (size : length bytes ≡ 2097153)
+    (file rest : List ℕ) (reads : ReadsFile (r .whole .gave) file rest)
     (enough : length file + interruptions (r .whole .gave) < 2 ^ 64 - 1) where
   -- a day file of at most 2,097,152 bytes has its book printed: no day has more places than there is room for
-  pub day-book-printed : length file ≤ 2097152 → IsSent (bookText (bookIn file)) went
-  day-book-printed short = book-printed r file rest reads enough (omega (arith, short)) (book-fits file)
+  pub day-book-printed : length file ≤ 2097152 → Prints (bookText (bookIn file)) before out (r .end) went
+  day-book-printed short = book-printed r file rest reads enough (omega (arith, short, size)) (book-fits file)
 
   -- of a longer one nothing is
-  pub day-book-refused : 2097152 < length file → IsSent [] went
-  day-book-refused long = long-unprinted r file rest reads enough (omega (arith, long))
+  pub day-book-refused : 2097152 < length file → Prints [] before out (r .end) went
+  day-book-refused long = long-unprinted r file rest reads enough (omega (arith, long, size))

@@ -1,7 +1,6 @@
 -- A run of the program: a whole day file is read, and the text of its book is written. What a read gives and whether a write is
 -- taken is the system's.
 use Prim.Native.Nat.{ℕ, _+_, _*_, _≤_}
-use mathlib.Core.Path.{_≡_}
 use mathlib.Core.Bool.{Bool, cond}
 use mathlib.Core.List.{List, []}
 use lib.Dec.{ltb}
@@ -11,6 +10,7 @@ use Rattle.daytext.specs.Buffer.{longest}
 use Rattle.booklines.specs.BookText.{bookText}
 use Rattle.booklines.specs.PlaceText.{longestPlace, mostPlaces}
 use Rattle.streams.specs.declared.input.Input.{Input}
+use Rattle.texts.specs.Laying.{Laid}
 use Rattle.streams.specs.System.{IsSent}
 use Rattle.streams.specs.Input.{Incoming, incoming, IsWhole}
 
@@ -27,10 +27,10 @@ bookOf places file = cond (ltb places (length (bookIn file))) [] (bookText (book
 unfoldable pub writtenOf : (places : ℕ) → Incoming → List ℕ
 writtenOf places i = cond (i .failed) [] (cond (i .last) (bookOf places (i .left)) [])
 
--- a run with room for so many bytes and places: the input was read, and what is written of it was taken or not
-pub record IsBookRun (size places : ℕ) (went : Bool) : Type 0 where
+-- a run with room for so many places: the input was read into bytes, what is written of it lies at the start of out, and was taken or not
+pub record IsBookRun (places : ℕ) (bytes before out : List ℕ) (went : Bool) : Type 0 where
   pub input : Input
-  pub bytes : List ℕ
-  pub long : length bytes ≡ size
   pub whole : IsWhole input bytes
+  pub end : ℕ
+  pub laid : Laid before 0 (writtenOf places (incoming input bytes)) out end
   pub sent : IsSent (writtenOf places (incoming input bytes)) went

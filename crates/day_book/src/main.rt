@@ -22,7 +22,8 @@ const PLACES: usize = 21845;
 // Room for the line of each place, 121 bytes, and for the end: 256, daytext's LONGEST.
 const OUTPUT: usize = 2643501;
 
-// Lays the text of the book of a whole day file, and answers how many bytes it takes.
+// Lays the text of the book of a whole day file, and answers how many bytes it takes. With PLACES places it is not refused: no book
+// has more.
 fn lay(bytes: &[u8], places: &mut [[u32; 11]], out: &mut [u8]) -> usize
     requires { ⌜ LinesFit (length (now places)) (length (now out)) ⌝ }
     ensures { λ r. ⌜ Laid (now (out .entry)) 0 (bookOf (length (now (places .entry))) (now (bytes .entry))) (now (out .exit)) r ⌝ }
@@ -66,7 +67,7 @@ fn lay_input(input: Input, bytes: &[u8], places: &mut [[u32; 11]], out: &mut [u8
 // Reads the whole input, and writes the text of its book.
 fn run(bytes: &mut [u8], places: &mut [[u32; 11]], out: &mut [u8]) -> bool
     requires { ⌜ LinesFit (length (now places)) (length (now out)) ⌝ }
-    ensures { λ went. ⌜ IsBookRun (length (now (bytes .entry))) (length (now (places .entry))) went ⌝ }
+    ensures { λ went. ⌜ IsBookRun (length (now (places .entry))) (now (bytes .exit)) (now (out .entry)) (now (out .exit)) went ⌝ }
 {
     let input = input::whole(bytes, b"day_book: cannot read standard input");
     let n = lay_input(input, bytes, places, out);
@@ -74,15 +75,9 @@ fn run(bytes: &mut [u8], places: &mut [[u32; 11]], out: &mut [u8]) -> bool
 }
 
 // The run, with room for the longest day file and the book of any.
-fn print_book() -> bool
-    ensures { λ went. ⌜ IsBookRun 2097153 21845 went ⌝ }
-{
+fn main() {
     let mut bytes = [0u8; INPUT];
     let mut places = [[0u32; 11]; PLACES];
     let mut out = [0u8; OUTPUT];
-    run(&mut bytes, &mut places, &mut out)
-}
-
-fn main() {
-    print_book();
+    run(&mut bytes, &mut places, &mut out);
 }

@@ -1,4 +1,4 @@
--- The claims of K1, once for every method, from demand 3 alone: what is heard of a list that follows the tally makes a book, and
+-- The claims of K1, once for every method, from demand 3 alone (and that a value shows the word which it was stored with): what is heard of a list that follows the tally makes a book, and
 -- with its calls and answers a run of the canonical automaton (`holds-booked`). The run is built as the list goes: a call, an
 -- update or a return is the last action; a page's Scan, once it is answered, is placed at its number.
 use Prim.Native.Nat.{ℕ, zero, suc, _-_, _≤_, _<_}
@@ -7,7 +7,8 @@ use native.Mathlib.Decide.{ℕ-discrete, decLe}
 use mathlib.Core.Path.{_≡_, refl, sym, ap, ap₂, _∙_, subst, fun-ext}
 use mathlib.Core.Logic.{_≢_, by-cases}
 use mathlib.Core.Bool.{false, cond, not}
-use mathlib.Core.List.{List, [], _∷_, _++_, map, append-assoc, append-nil, List·Permᴰ·trans, Permᴰ·append-nil}
+use mathlib.Core.List.{List, [], _∷_, _++_, map, List·Mem, mem-append-left, mem-append-right, mem-cons-self}
+use mathlib.Core.List.{append-assoc, append-nil, List·Permᴰ·trans, Permᴰ·append-nil}
 use mathlib.Core.Option.{Option, none, some, Option·map, Option·none-ne-some, Option·some-injective}
 use lib.ListN.{length, getD, set, replicate, length-append, length-set, length-replicate, getD-replicate, List·getD-append}
 use lib.Seq.{getD-set-same, getD-set-other, getD-at}
@@ -21,6 +22,7 @@ use Rattle.snapshot.specs.Canonical.{Action, ScanRequest, UpdateRequest,
 use Rattle.snapshot.specs.Canonical.{Memory, put, Precondition, effect, actorIn, isInternal, AsksOnce}
 use Rattle.snapshot.specs.Book.{Heard, heard, Operation, operations, Timed, request, finishedBy, saidBy, tallyAfter, finished}
 use Rattle.snapshot.specs.Book.{said, book, InOrder, NotBefore, rowsAfter, Shows, ReadsTrue, serialized, placedAt, pending}
+use Rattle.snapshot.specs.Book.{returned, IsTold}
 use Rattle.snapshot.specs.Book.{interfaceOf, memoryOf, internals, interface, IsBooked}
 use Rattle.snapshot.proofs.Lists.{map-set, map-replicate}
 use Rattle.snapshot.proofs.Placing.{all-of, all-imp, all-append, all-keep, all-place, pairs-imp, pairs-last, pairs-place, up-place}
@@ -110,6 +112,9 @@ module _ {Value : Type 0} (n : ℕ) (word : Value → ℕ) (start : Tally Value)
     pub mems : (e : ℕ) → e ≤ t .event → memAt e (map word (start .words)) acts ≡ map word (instant t e)
     pub still : (d : ℕ) (c : Call) → Among n d → callOf t d ≡ some c → All (Until d (c .number)) acts
     pub opened : (d : ℕ) (c : Call) → Among n d → callOf t d ≡ some c → c .number ≤ t .event
+    -- what is said of a call that is open, and of what is in the book
+    pub asked : (d : ℕ) (c : Call) → Among n d → callOf t d ≡ some c → List·Mem (c .number, request d (c .job)) h
+    pub told : All (IsTold h) b
 
   -- what actions of process d more, up to event e + 1, do not change
   record More (e d : ℕ) (old acts : List Timed) : Type 0 where
@@ -177,15 +182,17 @@ module _ {Value : Type 0} (n : ℕ) (word : Value → ℕ) (start : Tally Value)
       abbrev t′ : Tally Value
       t′ = advanced t ws d o
 
-      -- an open call of d has had no action since
-      abbrev Opens : List Timed → Type 0
-      Opens l = (c : Call) → o ≡ some c → (c .number ≤ now) × All (Until d (c .number)) l
+      -- an open call of d is said, and has had no action since
+      abbrev Opens : List Timed → List Timed → Type 0
+      Opens h′ l = (c : Call) → o ≡ some c →
+          (c .number ≤ now) × All (Until d (c .number)) l × List·Mem (c .number, request d (c .job)) h′
 
-      events : {b′ : List Operation} {h′ acts′ : List Timed} → Opens acts′ → More (t .event) d acts acts′ →
+      events : {b′ : List Operation} {h′ acts′ : List Timed} → Opens h′ acts′ → ((x : Timed) → List·Mem x h → List·Mem x h′) →
+          More (t .event) d acts acts′ →
           RunAt from acts′ (memoryOf word t′) → WellFormedAt (λ d. false) acts′ →
           Pairs InOrder b′ → All (λ o. o .answered ≤ now) b′ → All (λ o. (o .called < o .number) × (o .number ≤ o .answered)) b′ →
-          internals acts′ ≡ map placedAt b′ → interface acts′ ≡ h′ → SoFar t′ b′ h′ acts′
-      events {acts′ = acts′} open-now g r wf up ans spans ins outs =
+          All (IsTold h′) b′ → internals acts′ ≡ map placedAt b′ → interface acts′ ≡ h′ → SoFar t′ b′ h′ acts′
+      events {h′ = h′} {acts′ = acts′} open-now goes g r wf up ans spans told ins outs =
           record {
             sane = sane-advanced (s .sane) ws d m o;
             ordered = up;
@@ -211,6 +218,11 @@ module _ {Value : Type 0} (n : ℕ) (word : Value → ℕ) (start : Tally Value)
             opened = λ j c k q. by-cases (ℕ-discrete j d)
                 (λ e. open-now c (sym (call-own (s .sane) ws d m o) ∙ ap (callOf t′) (sym e) ∙ q) .0)
                 (λ e. let l = s .opened j c k (sym (call-other (s .sane) ws d m o j k e) ∙ q) in omega (arith, l));
+            asked = λ j c k q. by-cases (ℕ-discrete j d)
+                (λ e. subst (λ i. List·Mem (c .number, request i (c .job)) h′) (sym e)
+                (open-now c (sym (call-own (s .sane) ws d m o) ∙ ap (callOf t′) (sym e) ∙ q) .2))
+                (λ e. goes (c .number, request j (c .job)) (s .asked j c k (sym (call-other (s .sane) ws d m o j k e) ∙ q)));
+            told = told;
           }
 
     -- ---- a call, a turn that goes on
@@ -239,6 +251,10 @@ module _ {Value : Type 0} (n : ℕ) (word : Value → ℕ) (start : Tally Value)
       keep-append (λ x. not (isInternal (x .1))) l (after a ∷ []) ∙ ap (λ b. interface l ++ cond (not b) (after a ∷ []) []) q,
     )
 
+    -- what was told is, once more is said
+    told-more : (l : List Timed) → All (IsTold (h ++ l)) b
+    told-more l = all-imp (IsTold h) (IsTold (h ++ l)) (λ x p. (mem-append-left l (p .0), mem-append-left l (p .1))) b (s .told)
+
     called-so-far : (j : Job) → callOf t d ≡ none →
         SoFar (advanced t (t .words) d (some (opens now j))) b (h ++ (after (request d j) ∷ [])) (acts ++ (after (request d j) ∷ []))
     called-so-far j q = go j refl
@@ -246,40 +262,47 @@ module _ {Value : Type 0} (n : ℕ) (word : Value → ℕ) (start : Tally Value)
         o : Option Call
         o = some (opens now j)
 
-        end : (a : Action) → actorIn a ≡ d → isInternal a ≡ false → Precondition here a →
+        end : (a : Action) → a ≡ request d j → actorIn a ≡ d → isInternal a ≡ false → Precondition here a →
             AsksOnce (waitsEnd (λ d. false) acts) a → effect here a ≡ memoryOf word (advanced t (t .words) d o) →
             SoFar (advanced t (t .words) d o) b (h ++ (after a ∷ [])) (acts ++ (after a ∷ []))
-        end a p i pre once e =
+        end a is p i pre once e =
+            let said = subst (λ y. List·Mem (now, y) (h ++ (after a ∷ []))) is (mem-append-right h mem-cons-self) in
             let more = last-more acts none-more a p in
             let outs = last-outside acts a i in
             events (t .words) o
-            (λ c r. let z = ap (λ y. y .number) (Option·some-injective (opens now j) c r) in (
+            (λ c r. let is-c = Option·some-injective (opens now j) c r in
+            let z = ap (λ y. y .number) is-c in (
               omega (arith, z),
               all-imp (λ x. x .0 ≤ now) (Until d (c .number)) (λ x l f. omega (arith, l, z))
                   (acts ++ (after a ∷ [])) (more .past),
+              subst (λ y. List·Mem (y .number, request d (y .job)) (h ++ (after a ∷ []))) is-c said,
             ))
-            more (subst (RunAt from (acts ++ (after a ∷ []))) e (run-last acts (after a) from here (s .run) pre))
+            (λ x. mem-append-left (after a ∷ [])) more (subst (RunAt from (acts ++ (after a ∷ []))) e (run-last acts (after a) from here (s .run) pre))
             (well-formed-last (λ d. false) acts (after a) (s .well-formed) once)
-            (s .ordered) (later b (s .answered)) (s .spans)
+            (s .ordered) (later b (s .answered)) (s .spans) (told-more (after a ∷ []))
             (outs .0 ∙ s .inside) (outs .1 ∙ ap (λ k. k ++ (after a ∷ [])) (s .outside))
 
         go : (i : Job) → i ≡ j →
             SoFar (advanced t (t .words) d o) b (h ++ (after (request d i) ∷ [])) (acts ++ (after (request d i) ∷ []))
-        go scan e = end (ScanRequest d) refl refl tt (rests q) (leads-to (t .words) o _ (ap (λ i. put H d (some (request d i))) e))
+        go scan e = end (ScanRequest d) (ap (request d) e) refl refl tt (rests q) (leads-to (t .words) o _ (ap (λ i. put H d (some (request d i))) e))
         go (update k w) e =
-            end (UpdateRequest d k w) refl refl tt (rests q) (leads-to (t .words) o _ (ap (λ i. put H d (some (request d i))) e))
+            end (UpdateRequest d k w) (ap (request d) e) refl refl tt (rests q) (leads-to (t .words) o _ (ap (λ i. put H d (some (request d i))) e))
 
     went-so-far : (c : Call) → callOf t d ≡ some c → SoFar (advanced t (t .words) d (some (gains c))) b h acts
     went-so-far c q =
         events (t .words) (some (gains c))
-        (λ x r. let z = ap (λ y. y .number) (Option·some-injective (gains c) x r) in
-        let l = s .opened d c m q in
-        (omega (arith, z, l), subst (λ k. All (Until d k) acts) z (s .still d c m q)))
-        none-more
+        (λ x r. let is-x = Option·some-injective (gains c) x r in
+        let z = ap (λ y. y .number) is-x in
+        let l = s .opened d c m q in (
+          omega (arith, z, l),
+          subst (λ k. All (Until d k) acts) z (s .still d c m q),
+          subst (λ y. List·Mem (y .number, request d (y .job)) h) is-x (s .asked d c m q),
+        ))
+        (λ x p. p) none-more
         (subst (RunAt from acts)
         (leads-to (t .words) (some (gains c)) H (sym (put-self H d (some (request d (c .job))) (asks c q (c .job) refl))))
         (s .run))
-        (s .well-formed) (s .ordered) (later b (s .answered)) (s .spans) (s .inside) (s .outside)
+        (s .well-formed) (s .ordered) (later b (s .answered)) (s .spans) (s .told) (s .inside) (s .outside)
 
     -- ---- an answer: one more operation in the book
 
@@ -305,6 +328,15 @@ module _ {Value : Type 0} (n : ℕ) (word : Value → ℕ) (start : Tally Value)
           all-place number o (λ x. (x .called < x .number) × (x .number ≤ x .answered)) b (s .spans)
           (spans-o .0, omega (arith, spans-o .1, answered-o))
 
+      book-told : (a : Action) → o .process ≡ d → returned (o .process) (o .words) (o .job) ≡ a →
+          List·Mem (o .called, request (o .process) (o .job)) h → All (IsTold (h ++ (after a ∷ []))) b′
+      book-told a p e said =
+          all-place number o (IsTold (h ++ (after a ∷ []))) b (told-more (after a ∷ [])) (
+            mem-append-left (after a ∷ []) said,
+            subst (λ y. List·Mem y (h ++ (after a ∷ []))) (ap₂ {C = Timed} (λ x y. (x, y)) (sym answered-o) (sym e))
+                (mem-append-right h mem-cons-self),
+          )
+
       book-inside : (a : Action) → serialized (o .process) (o .words) (o .job) ≡ a →
           place time (o .number, a) (internals acts) ≡ map placedAt b′
       book-inside a e =
@@ -321,7 +353,7 @@ module _ {Value : Type 0} (n : ℕ) (word : Value → ℕ) (start : Tally Value)
       paged-so-far =
           let spans-o : (c .number < k) × (k ≤ now) = (low, omega (arith, high)) in
           let outs = last-outside (scanned k d ds acts) (ScanReturn d ds) refl in
-          events (t .words) none (λ x r. absurd (Option·none-ne-some x r))
+          events (t .words) none (λ x r. absurd (Option·none-ne-some x r)) (λ x. mem-append-left (after (ScanReturn d ds) ∷ []))
           (last-more (scanned k d ds acts) (scan-more k high ds) (ScanReturn d ds) refl)
           (subst (RunAt from (scanned k d ds acts ++ (after (ScanReturn d ds) ∷ [])))
           (leads-to (t .words) none _ (put-twice H d none (some (ScanReturn d ds))))
@@ -333,6 +365,7 @@ module _ {Value : Type 0} (n : ℕ) (word : Value → ℕ) (start : Tally Value)
           (well-formed-last (λ d. false) (scanned k d ds acts) (after (ScanReturn d ds))
           (well-formed-scanned k d ds (λ d. false) acts (s .well-formed)) tt)
           (book-ordered page spans-o refl) (book-answered page spans-o refl) (book-spans page spans-o refl)
+          (book-told page spans-o refl (ScanReturn d ds) refl (ap (returned d ds) j) (s .asked d c m q))
           (outs .0 ∙ keep-place-in time (k, Scan d ds) (λ x. isInternal (x .1)) refl acts (s .ascending)
           ∙ book-inside page spans-o refl (Scan d ds) (ap (serialized d ds) j))
           (outs .1 ∙ ap (λ l. l ++ (after (ScanReturn d ds) ∷ []))
@@ -353,6 +386,7 @@ module _ {Value : Type 0} (n : ℕ) (word : Value → ℕ) (start : Tally Value)
           let spans-o : (c .number < now) × (now ≤ now) = (omega (arith, l), omega arith) in
           let outs = last-outside written (UpdateReturn d) refl in
           events (set (t .words) (k - 1) v) none (λ x r. absurd (Option·none-ne-some x r))
+          (λ x. mem-append-left (after (UpdateReturn d) ∷ []))
           (last-more written (last-more acts none-more (Update d k w) refl) (UpdateReturn d) refl)
           (subst (RunAt from (written ++ (after (UpdateReturn d) ∷ [])))
           (ap₂ {C = Memory} (λ x y. record { Mem = x; H = y })
@@ -365,6 +399,7 @@ module _ {Value : Type 0} (n : ℕ) (word : Value → ℕ) (start : Tally Value)
           (well-formed-last (λ d. false) written (after (UpdateReturn d))
           (well-formed-last (λ d. false) acts (after (Update d k w)) (s .well-formed) tt) tt)
           (book-ordered entry spans-o refl) (book-answered entry spans-o refl) (book-spans entry spans-o refl)
+          (book-told entry spans-o refl (UpdateReturn d) refl (ap (returned d []) j) (s .asked d c m q))
           (outs .0 ∙ keep-append (λ x. isInternal (x .1)) acts (after (Update d k w) ∷ [])
           ∙ sym (place-last time (after (Update d k w)) (internals acts)
           (all-keep (λ x. x .0 ≤ now) (λ x. isInternal (x .1)) acts (none-more .past)))
@@ -437,7 +472,7 @@ module _ {Value : Type 0} (n : ℕ) (most : Job → ℕ) (stored : ℕ → ℕ �
     item-adds (turn d) vs (Written turns) f = written-adds d (f .0) turns (callOf t d) refl (f .1)
 
   list-adds : (hs : List (Heard Value)) (t : Tally Value) (b : List Operation) (h acts : List Timed) → SoFar n word start t b h acts →
-      Follows n most stored t hs → Adds t b h (tallyAfter stored word t hs) (finished stored word t hs) (said stored word t hs)
+      Follows n most stored t hs → Adds t b h (tallyAfter stored t hs) (finished stored word t hs) (said stored word t hs)
   list-adds [] t b h acts s f = nothing t b h acts s
   list-adds (x ∷ hs) t b h acts s f =
       let os = finishedBy word t (x .seen) (x .shown) (x .answer) in
@@ -446,7 +481,7 @@ module _ {Value : Type 0} (n : ℕ) (most : Job → ℕ) (stored : ℕ → ℕ �
       let first = item-adds t b h acts s (x .seen) (x .shown) (x .answer) (f .0) in
       let rest = list-adds hs t′ (places number os b) (h ++ l) (first .0) (first .1) (f .1) in (
         rest .0,
-        subst (λ z. SoFar n word start (tallyAfter stored word t′ hs) (z .0) (z .1) (rest .0))
+        subst (λ z. SoFar n word start (tallyAfter stored t′ hs) (z .0) (z .1) (rest .0))
             (ap₂ {C = List Operation × List Timed} (λ y z. (y, z)) (sym (places-append number os (finished stored word t′ hs) b))
             (append-assoc h l (said stored word t′ hs))) (rest .1),
       )
@@ -483,12 +518,14 @@ module _ {Value : Type 0} (n m : ℕ) (z : Value) (word : Value → ℕ) where
         mems = λ e l. ap (λ k. map word (instant (started n m z) k)) (let q : 0 ≡ e = omega (arith, l) in q);
         still = λ d c k q. absurd (no-call d c k q);
         opened = λ d c k q. absurd (no-call d c k q);
+        asked = λ d c k q. absurd (no-call d c k q);
+        told = tt;
       }
 
   -- of what is heard from the start on and follows the tally
   pub follows-booked : (most : Job → ℕ) (stored : ℕ → ℕ → Value) → ((e w : ℕ) → word (stored e w) ≡ w) → (hs : List (Heard Value)) →
       Follows n most stored (started n m z) hs →
-      IsBooked n word (started n m z) (tallyAfter stored word (started n m z) hs) (finished stored word (started n m z) hs)
+      IsBooked n word (started n m z) (tallyAfter stored (started n m z) hs) (finished stored word (started n m z) hs)
       (said stored word (started n m z) hs)
   follows-booked most stored says hs f =
       let t = started n m z in
@@ -497,6 +534,7 @@ module _ {Value : Type 0} (n m : ℕ) (z : Value) (word : Value → ℕ) where
       let s = all .1 in
       record {
         whole = ∣ List·Permᴰ·trans (places-perm number os []) (Permᴰ·append-nil os) ∣₁;
+        told = s .told;
         ordered = s .ordered;
         first = pairs-imp (λ o. (o .called < o .number) × (o .number ≤ o .answered)) InOrder NotBefore
             (λ a b p q r l. omega (arith, p .0, q .1, r .0, l)) (book os) (s .spans) (s .ordered);
@@ -516,7 +554,7 @@ module _ {Value : Type 0} (n m : ℕ) (z : Value) (word : Value → ℕ) where
 -- of every method for which demand 3 holds
 pub holds-booked : (M : Method) (word : M .Value → ℕ) → ((e w : ℕ) → word (M .stored e w) ≡ w) → (s : M .State) (m : ℕ) (z : M .Value)
     (xs : List (M .Item)) → Holds M s (started (M .processes) m z) xs → let hs = heard M s xs in let t = started (M .processes) m z in
-    IsBooked (M .processes) word t (tallyAfter (M .stored) word t hs) (finished (M .stored) word t hs) (said (M .stored) word t hs)
+    IsBooked (M .processes) word t (tallyAfter (M .stored) t hs) (finished (M .stored) word t hs) (said (M .stored) word t hs)
 holds-booked M word says s m z xs h =
     follows-booked (M .processes) m z word (M .most) (M .stored) says (heard M s xs) (holds-follows M s (started (M .processes) m z) xs h)
 

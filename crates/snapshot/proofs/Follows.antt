@@ -9,6 +9,7 @@ use Rattle.snapshot.specs.Demand.{Method, step, Fits, Holds}
 use Rattle.snapshot.specs.Book.{Heard, heard}
 
 module _ {Value : Type 0} (n : ℕ) (most : Job → ℕ) (stored : ℕ → ℕ → Value) where
+  -- an answer fits the tally; a refusal, and an opening, need not
   abbrev pub Tells : Tally Value → Seen → List Value → Answer → Type 0
   Tells t x vs (Refused k) = Unit {0}
   Tells t x vs Opened = Unit {0}
@@ -17,6 +18,7 @@ module _ {Value : Type 0} (n : ℕ) (most : Job → ℕ) (stored : ℕ → ℕ �
   Tells t x vs (Page lender at turns) = Fits n most t x vs (Page lender at turns)
   Tells t x vs (Written turns) = Fits n most t x vs (Written turns)
 
+  -- every answer of a list does, each against the tally after those before it
   abbrev pub Follows : Tally Value → List (Heard Value) → Type 0
   Follows t [] = Unit {0}
   Follows t (h ∷ hs) = Tells t (h .seen) (h .shown) (h .answer) × Follows (tallied stored t (h .seen) (h .answer)) hs

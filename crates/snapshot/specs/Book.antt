@@ -3,7 +3,7 @@
 use Prim.Native.Nat.{ℕ, zero, suc, _-_, _≤_, _<_}
 use mathlib.Core.Path.{_≡_}
 use mathlib.Core.Bool.{false, not}
-use mathlib.Core.List.{List, [], _∷_, _++_, map, Perm}
+use mathlib.Core.List.{List, [], _∷_, _++_, map, List·Mem, Perm}
 use mathlib.Core.Option.{Option, none, some}
 use lib.ListN.{getD, set}
 use Rattle.snapshot.specs.declared.Answer.{Answer}
@@ -78,12 +78,13 @@ module _ {Value : Type 0} (word : Value → ℕ) where
   saidBy e x vs (Page lender at turns) = bySeen [] (λ d j. []) (λ d. (e, ScanReturn d (map word vs)) ∷ []) x
   saidBy e x vs (Written turns) = bySeen [] (λ d j. []) (λ d. (e, UpdateReturn d) ∷ []) x
 
--- the same of a whole list, from a tally on; stored is what a register holds after a word is written (Tally)
-module _ {Value : Type 0} (stored : ℕ → ℕ → Value) (word : Value → ℕ) where
-  abbrev pub tallyAfter : Tally Value → List (Heard Value) → Tally Value
-  tallyAfter t [] = t
-  tallyAfter t (h ∷ hs) = tallyAfter (tallied stored t (h .seen) (h .answer)) hs
+-- the tally after a whole list; stored is what a register holds after a word is written (Tally)
+abbrev pub tallyAfter : {Value : Type 0} → (stored : ℕ → ℕ → Value) → Tally Value → List (Heard Value) → Tally Value
+tallyAfter stored t [] = t
+tallyAfter stored t (h ∷ hs) = tallyAfter stored (tallied stored t (h .seen) (h .answer)) hs
 
+-- what a whole list finishes and says, from a tally on
+module _ {Value : Type 0} (stored : ℕ → ℕ → Value) (word : Value → ℕ) where
   abbrev pub finished : Tally Value → List (Heard Value) → List Operation
   finished t [] = []
   finished t (h ∷ hs) =
@@ -102,6 +103,16 @@ abbrev pub book : List Operation → List Operation
 book os = places (λ o. o .number) os []
 
 -- ---- what is claimed of it
+
+-- its call and its answer are among those of the list, at the numbers that it says
+abbrev pub returned : ℕ → List ℕ → Job → Action
+returned d ws scan = ScanReturn d ws
+returned d ws (update k w) = UpdateReturn d
+
+abbrev pub IsTold : List Timed → Operation → Type 0
+IsTold l o =
+    List·Mem (o .called, request (o .process) (o .job)) l
+    × List·Mem (o .answered, returned (o .process) (o .words) (o .job)) l
 
 -- by number, and by answer where numbers agree
 abbrev pub InOrder : Operation → Operation → Type 0
@@ -151,7 +162,7 @@ internals l = keep (λ a. isInternal (a .1)) l
 abbrev pub interface : List Timed → List Timed
 interface l = keep (λ a. not (isInternal (a .1))) l
 
--- "With every call and answer at its number this is a run of the canonical automaton": of n processes, from t to u
+-- "With every call and answer at its number this is a run of the canonical automaton": of n processes, from t, when nobody waits, to u
 pub record IsSerialized {Value : Type 0} (n : ℕ) (word : Value → ℕ) (t u : Tally Value) (os : List Operation)
     (calls-and-answers : List Timed) : Type 0 where
   pub actions : List Timed
@@ -162,10 +173,12 @@ pub record IsSerialized {Value : Type 0} (n : ℕ) (word : Value → ℕ) (t u :
   pub run : Run (memoryOf word t) (map (λ a. a .1) actions) (memoryOf word u)
   pub well-formed : WellFormed (λ d. false) (map (λ a. a .1) actions)
 
--- of the finished operations os: the book holds each of them once, in order; every page in it is true; and it is a run
+-- of the finished operations os: the book holds each of them once, with the numbers of its call and answer, in order; every page in
+-- it is true; and it is a run
 pub record IsBooked {Value : Type 0} (n : ℕ) (word : Value → ℕ) (t u : Tally Value) (os : List Operation)
     (calls-and-answers : List Timed) : Type 0 where
   pub whole : Perm (book os) os
+  pub told : All (IsTold calls-and-answers) (book os)
   pub ordered : Pairs InOrder (book os)
   pub first : Pairs NotBefore (book os)
   pub reads : ReadsTrue (map word (t .words)) (book os)

@@ -8,7 +8,8 @@ use mathlib.Core.Option.{Option, none, some}
 use lib.Dec.{eqb}
 use lib.ListN.{set}
 
--- of process i: "Request actions" and "Return actions", and the internal Update and Scan; k is an address, d and ds are data
+-- of process i: "Request actions" and "Return actions", and the internal Update and Scan; k is an address, from 1 on, and d and ds are
+-- data. Which processes and addresses there are is said of a run
 pub data Action : Type 0 where
   UpdateRequest : (i k d : ℕ) → Action
   ScanRequest : (i : ℕ) → Action
@@ -51,6 +52,7 @@ Run s (a ∷ l) u = Precondition s a × Run (effect s a) l u
 
 -- ---- which action is what
 
+-- the process whose action it is
 abbrev pub actorIn : Action → ℕ
 actorIn (UpdateRequest i k d) = i
 actorIn (ScanRequest i) = i

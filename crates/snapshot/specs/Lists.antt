@@ -52,7 +52,7 @@ abbrev pub Pairs : {A : Type 0} → (A → A → Type 0) → List A → Type 0
 Pairs R [] = Unit {0}
 Pairs R (x ∷ xs) = All (R x) xs × Pairs R xs
 
--- x behind every element whose number is not above its own
+-- x before the first element whose number is above its own: in ascending order, behind all whose number is not
 abbrev pub place : {A : Type 0} → (number : A → ℕ) → A → List A → List A
 place number x [] = x ∷ []
 place number x (y ∷ ys) = cond (leb (number y) (number x)) (y ∷ place number x ys) (x ∷ y ∷ ys)

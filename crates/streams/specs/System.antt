@@ -28,6 +28,6 @@ allTaken bs (Bytes k ∷ ts) = allTaken (drop k bs) ts
 allTaken bs (Interrupted ∷ ts) = allTaken bs ts
 allTaken bs (Failed ∷ ts) = false
 
--- the bytes were written, and taken or not, as the system answered
+-- what the system answered to writes of these bytes: taken whole or not. It says nothing of what the system did with them
 abbrev pub IsSent : List ℕ → Bool → Type 0
 IsSent bs went = (ts : List Transfer) × (went ≡ allTaken bs ts)

@@ -39,9 +39,9 @@ returns c =
     let at-whole = at-lay .before .before .before .before .before .before in
     record {
       input = at-whole .whole .result;
-      bytes = at-whole .whole .last .0;
-      long = at-whole .whole .kept .0;
       whole = at-whole .whole .ensures;
+      end = at-lay .lay-input .result;
+      laid = at-lay .lay-input .ensures;
       sent = subst (λ t. IsSent t (c .write-out .result)) (laid-start (at-lay .lay-input .ensures) .0) (c .write-out .ensures);
     }
 

@@ -1,12 +1,12 @@
--- `day_book::print_book` meets its contract.
+-- `day_book::main` lends `run` buffers that are long enough.
 use Prim.Native.Nat.{ℕ}
 use mathlib.Core.Path.{sym}
 use mathlib.Core.List.{List}
 use lib.ListN.{replicate, length-replicate}
-use Rattle.day_book.proofs.Inputs.{room-enough, run-sized}
+use Rattle.day_book.proofs.Inputs.{room-enough}
 use borrow.Author.Needs.{needs}
-use Rattle.day_book.proofs.print_book.Statement.{statement}
-use Rattle.day_book.proofs.print_book.Tie as tie
+use Rattle.day_book.proofs.main.Statement.{statement}
+use Rattle.day_book.proofs.main.Tie as tie
 
 slice-aggregate-run : tie.Need-slice-aggregate-run
 slice-aggregate-run c = sym (length-replicate {A = ℕ} 2097153 0)
@@ -24,11 +24,9 @@ run-requires c κs =
     room-enough places out (length-replicate {A = List ℕ} 21845 (replicate 11 0)) (length-replicate {A = ℕ} 2643501 0)
 
 returns : tie.Need-returns
-returns c =
-    run-sized (c .before .before .before .run .ensures) (length-replicate {A = ℕ} 2097153 0)
-    (length-replicate {A = List ℕ} 21845 (replicate 11 0))
+returns c = tt
 
-pub print-book-spec : {M : Type 1} → statement M
-print-book-spec =
+pub main-spec : {M : Type 1} → statement M
+main-spec =
     tie.close
     (tie.spec slice-aggregate-run slice-aggregate-run-2 slice-aggregate-run-3 run-requires returns)
