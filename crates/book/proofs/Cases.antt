@@ -31,7 +31,7 @@ turns zero d = []
 turns (suc k) d = layout (Turn d) ++ turns k d
 
 -- "records open 1; entry call 1, word 7; turn 1 three times; page call 1; turn 1 three times"
-abbrev caseA : List ℕ
+abbrev pub caseA : List ℕ
 caseA = layout (Open 1) ++ layout (Update 1 7) ++ turns 3 1 ++ layout (Scan 1) ++ turns 3 1
 
 -- case B, whose page is answered after the entry that stands below it

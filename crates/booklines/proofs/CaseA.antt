@@ -1,41 +1,28 @@
 -- Case A of document 01, from the bytes of its file to the text of its book; and a day with nothing in it.
-use Prim.Native.Nat.{ℕ}
+
 use mathlib.Core.Path.{_≡_, refl}
-use mathlib.Core.List.{List, [], _++_}
+use mathlib.Core.List.{[], _++_}
 use Rattle.snapshot.specs.Demand.{step}
 use Rattle.snapshot.specs.Verdict.{verdict}
 use Rattle.snapshot.specs.Marks.{isMoved, withMoved, lends}
 use Rattle.snapshot.specs.Days as Days
 use Rattle.snapshot.specs.Days.{isFull, refusal, openedBy, advance, calledBy, turnBy, accept}
-use Rattle.snapshot.specs.declared.Request.the-variants.{Open, Update, Scan, Turn}
 use Rattle.unbounded.specs.Registers.{laid, readInto, cleared, pageOf, differs}
 use Rattle.unbounded.specs.Processes.{begin}
 use Rattle.unbounded.specs.Turns.{position, placeAt, firstAfter, secondAfter, endAfter, decision, marksAfter, afterRead, foundBy}
 use Rattle.unbounded.specs.Turns.{written, turned}
 use Rattle.unbounded.specs.Days.{mostReads, unsound}
-use Rattle.dayfile.specs.Layout.{lengthOf, layout}
+use Rattle.dayfile.specs.Layout.{lengthOf}
 use Rattle.dayfile.specs.Reader.{recordOf, reading}
 use Rattle.dayfile.specs.Files.{readingsUpTo, readings}
 use Rattle.days.specs.Asking.{lentTo}
 use Rattle.days.specs.Happenings.{dayOf}
 use Rattle.book.specs.DayBooks.{bookIn}
+use Rattle.book.proofs.Cases.{caseA}
 use Rattle.texts.specs.Ascii.{ascii}
 use Rattle.texts.specs.Decimal.{decimal}
 use Rattle.daytext.specs.Lines.{bodyOf, textOf}
 use Rattle.booklines.specs.BookText.{bookText}
-
--- "records open 1; entry call 1, word 7; turn 1 three times; page call 1; turn 1 three times"
-abbrev caseA : List ℕ
-caseA =
-    layout (Open 1)
-    ++ layout (Update 1 7)
-    ++ layout (Turn 1)
-    ++ layout (Turn 1)
-    ++ layout (Turn 1)
-    ++ layout (Scan 1)
-    ++ layout (Turn 1)
-    ++ layout (Turn 1)
-    ++ layout (Turn 1)
 
 -- the entry at its writing turn, the page at its instant
 pub case-a :

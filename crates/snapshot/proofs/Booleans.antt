@@ -7,6 +7,10 @@ pub bool-cases : {C : Type 0} (b : Bool) → (b ≡ true → C) → (b ≡ false
 bool-cases true f g = f refl
 bool-cases false f g = g refl
 
+pub not-true : (b : Bool) → not b ≡ true → b ≡ false
+not-true true h = absurd (false≢true h)
+not-true false h = refl
+
 pub not-false : (b : Bool) → not b ≡ false → b ≡ true
 not-false true h = refl
 not-false false h = absurd (true≢false h)

@@ -1,7 +1,8 @@
 -- `book::write` meets its contract.
-use mathlib.Core.Path.{_≡_, refl, sym, subst, _∙_}
-use mathlib.Core.Bool.{Bool, true, false, not}
+use mathlib.Core.Path.{sym, subst, _∙_}
+use mathlib.Core.Bool.{not}
 use lib.ListN.{replicate}
+use Rattle.snapshot.proofs.Booleans.{not-true, not-false}
 use Rattle.book.specs.Passes.{Passed}
 use Rattle.book.proofs.Written.{refuses, writes}
 use borrow.Author.Needs.{needs}
@@ -14,19 +15,11 @@ has-room-requires c κs = search needs
 same-length : tie.Need-same-length
 same-length c = search needs
 
-no-room : (b : Bool) → not b ≡ true → b ≡ false
-no-room true q = sym q
-no-room false q = refl
-
-some-room : (b : Bool) → not b ≡ false → b ≡ true
-some-room true q = refl
-some-room false q = sym q
-
 returns : tie.Need-returns
 returns c =
     let a = c .before .before .before .before .before .args in
     let h = c .before .before .has-room in
-    let w = refuses (a .bytes .now) (a .book .now) (sym (h .ensures .0) ∙ no-room (h .result) (c .if1 .taken)) in
+    let w = refuses (a .bytes .now) (a .book .now) (sym (h .ensures .0) ∙ not-true (h .result) (c .if1 .taken)) in
     (w .0, h .ensures .1 ∙ w .1)
 
 pass-requires : tie.Need-pass-requires
@@ -42,7 +35,7 @@ returns-2 c =
     let p = c .before .before .pass in
     writes (a .bytes .now) (p .result) (a .book .now) (p .last .1 .0)
     (subst (λ b. Passed (p .result) (a .bytes .now) (replicate 8 0) b (p .last .1 .0)) (h .ensures .1) (p .ensures))
-    (sym (h .ensures .0) ∙ some-room (h .result) (c .before .before .before .before .if1 .left))
+    (sym (h .ensures .0) ∙ not-false (h .result) (c .before .before .before .before .if1 .left))
 
 pub write-spec : {M : Type 1} → statement M
 write-spec =

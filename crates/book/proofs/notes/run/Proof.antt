@@ -3,7 +3,7 @@
 use mathlib.Core.Path.{_≡_, refl, sym, ap, subst, _∙_}
 use Prim.Native.Nat.{ℕ, _≤_}
 use native.Mathlib.Omega.{arith}
-use mathlib.Core.Bool.{Bool, true, false, not}
+use mathlib.Core.Bool.{false, not}
 use mathlib.Core.List.{List, [], _∷_, _++_}
 use lib.Dec.{lit<}
 use lib.Ieee.Bits.{is-true, is-false}
@@ -13,6 +13,7 @@ use Rattle.walks.proofs.Walking.{_▹_, begins-three, three-open, while-loops, 
 use Rattle.walks.proofs.Walking.{tests, calls-passed, field-seen, seen, all-seen, lends-first, lends-again, swaps, swaps-pairs}
 use Rattle.walks.proofs.Walking.{calls-first-two, calls-shared-lent, as-long, room-for, first-long, forgets, copies, ends-three}
 use Rattle.walks.proofs.Walking.{callee, given, asks-nothing, two-said, three-said, id⊢}
+use Rattle.snapshot.proofs.Booleans.{not-true, not-false}
 use Rattle.dayfile.specs.declared.Reading.{Reading}
 use Rattle.unbounded.specs.Processes.{zeroProcess}
 use Rattle.days.specs.Asking.{requestOf}
@@ -78,14 +79,6 @@ module _ {bytes : List ℕ} {zs : List (List ℕ)} {ys : List ℕ} (s : State by
 reaches : {t : Lap} {bytes : List ℕ} → Ready t bytes → t .notes .end ≤ length bytes
 reaches r = let e = r .end-is in omega (arith, e)
 
-going : (b : Bool) → not b ≡ true → b ≡ false
-going true q = sym q
-going false q = refl
-
-over : (b : Bool) → not b ≡ false → b ≡ true
-over true q = refl
-over false q = sym q
-
 pub run-spec : {M : Type 1} → stated.statement M
 unfolding code.routine
 run-spec 𝓤 H 𝓜 𝓖 𝓡 =
@@ -133,7 +126,7 @@ run-spec 𝓤 H 𝓜 𝓖 𝓡 =
     gets ! goes-is (not (p .ended)) ((tt, tt, refl), tt) (asks-nothing 𝓤) (λ q ws. id⊢ 𝓤 _) (λ _.
     tests ! refl tt
     (λ held.
-    let go = going (p .ended) (is-true (not (p .ended)) held) in
+    let go = not-true (p .ended) (is-true (not (p .ended)) held) in
     calls-passed ! a-u8 (κs .0) (qs .0) (input .ptr .0) (input .ptr .1) (input .name) bytes (are .1 .0 .0 .1) next-of-is
     ((tt, tt, refl), (refl, tt)) (given 𝓤 (s .ready .within, reaches (s .ready))) (λ x. (x ≡ nextAfter p bytes) × Consumes x p)
     (λ q ws. id⊢ 𝓤 _) (λ x read x-is.
@@ -157,7 +150,7 @@ run-spec 𝓤 H 𝓜 𝓖 𝓡 =
     swaps ! ▹ swaps-pairs ! ▹ forgets ! 7 ▹
     again (after s x go read n-is table-is l l′) (lap-fewer t bytes (s .ready) x (read .1) go)))))))
     (λ failed. leaves _ _ (
-    let halts = over (p .ended) (is-false (not (p .ended)) failed) in
+    let halts = not-false (p .ended) (is-false (not (p .ended)) failed) in
     copies ! refl (tt, refl) ▹
     ends-three ! ps a-notes c κs qs a h p (s .notes-is) a-u8 a-place a-u32 input book page
     (t .book) book-fits (s .book-long) (t .page) page-fits (s .page-long)
