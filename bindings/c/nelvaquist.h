@@ -4,7 +4,8 @@
  * all rows together by a page. Both begin with a call and go on by turns, which the caller hands out
  * to the desks in any order; a turn reads or writes one row. A page shows what stood in the rows at
  * one instant between its call and its answer, however the turns of other desks fall between its own.
- * example.c, beside this file, is a whole day.
+ * A day has at most 65,535 events, and a call is taken only if it and all calls under way can be ended
+ * within them. example.c, beside this file, is a whole day.
  *
  * The caller keeps all that the register knows, and lends it to every request:
  *
@@ -102,15 +103,20 @@ enum nq_answer {
 /* Why a request or a day file is refused. The numbers stay as they are; later versions may add some.
  *
  * Where several apply, the first in this order is given. A kind that is none: 8. Opening: 10, 1, 6.
- * Call or turn: 10, 6, 11, 2, then 3 or 4, then 5. Day file: 7 if one byte is left, 9 if the length
- * is outside 4 to 8, 7, 8, then 9. */
+ * Call: 10, 6, 11, 2, 3, 5. Turn: 10, 6, 11, 2, 4. Day file: 7 if one byte is left, 9 if the length is
+ * outside 4 to 8, 7, 8, then 9.
+ *
+ * A page owes 2n*n turns and an entry 2n*n + 1, less the turns that it has had. It can end sooner. */
 enum nq_refusal {
     NQ_DESK_COUNT = 1,   /* The desk count asked for is outside 1 to 8. */
     NQ_NO_SUCH_DESK = 2, /* The desk number is outside 1 to n. */
     NQ_DESK_BUSY = 3,    /* The desk that calls has a call under way. */
     NQ_DESK_IDLE = 4,    /* The desk that is given a turn has no call under way. */
-    NQ_DAY_FULL = 5,     /* The event number is 65,535, the last one of a day. A new day is opened
-                            with count and event 0; calls under way and rows are lost. */
+    NQ_DAY_FULL = 5,     /* The day has too few events left for another call: the event number, 1 for
+                            the call, all turns owed and those that the call would owe are more than
+                            65,535. Calls under way can always be ended on the same day, so finish
+                            them; if they end sooner than they could, a call may be taken again. A
+                            new day is opened with count and event 0; rows are lost. */
     NQ_LENT_SIZE = 6,    /* The table has not exactly n records (when opening, as many as asked for),
                             or the page list of a turn has fewer than n words. */
     NQ_CUT_SHORT = 7,    /* The day file ends within a request. */
@@ -120,7 +126,8 @@ enum nq_refusal {
     NQ_CANNOT_ARISE = 11 /* The day cannot have arisen: the desk count is above 8, the event number is
                             above 65,535, or in a record the row's seq or at is above the event number,
                             the task is unknown, or it has had more than 2n*n - 1 turns, 2n*n if it is
-                            an entry ready to write. */
+                            an entry ready to write; or the event number and all turns owed are more
+                            than 65,535. */
 };
 
 /* The reply to a request. What an answer does not have is 0. */

@@ -275,7 +275,8 @@ static void pages(void)
     CHECK(leaves(page(0, 48, 4), NQ_ASK_TURN, 2, NO_WORD));
 }
 
-/* A day for two desks on records full of 3s: desk 1 is idle, desk 2 ready to write its row. */
+/* A day for two desks on records full of 3s: desk 1 is idle, desk 2 ready to write its row, and owes
+ * 9 - 3 turns. */
 static void two_desks(uint32_t event)
 {
     lend(2, 2, 3);
@@ -354,9 +355,30 @@ static void last_event(void)
     while (answers(called, NQ_ASK_PAGE, 1, NO_WORD))
         CHECK(reads_on(1, 1) && answers(page(0, now.event, 2), NQ_ASK_TURN, 1, NO_WORD));
     CHECK(now.event == NQ_LAST_EVENT);
-    CHECK(refuses(NQ_DAY_FULL, NQ_ASK_PAGE, 1));
+    CHECK(refuses(NQ_DAY_FULL, NQ_ASK_PAGE, 1) && refuses(NQ_DAY_FULL, NQ_ASK_ENTRY, 1));
+    CHECK(refuses(NQ_DESK_IDLE, NQ_ASK_TURN, 1));
     now.count = now.event = 0;
     CHECK(opens(1));
+}
+
+/* The last calls of a day on which desk 2 owes six turns, and its turn, which ends it sooner. A page
+ * can need eight turns, an entry nine. */
+static void last_calls(void)
+{
+    two_desks(NQ_LAST_EVENT - 6 - 9);
+    CHECK(answers(called, NQ_ASK_PAGE, 1, NO_WORD));
+    two_desks(NQ_LAST_EVENT - 6 - 10);
+    CHECK(answers(called, NQ_ASK_ENTRY, 1, NO_WORD));
+    two_desks(NQ_LAST_EVENT - 6 - 9);
+    CHECK(refuses(NQ_DAY_FULL, NQ_ASK_ENTRY, 1));
+    two_desks(NQ_LAST_EVENT - 6 - 8);
+    CHECK(refuses(NQ_DAY_FULL, NQ_ASK_ENTRY, 1) && refuses(NQ_DAY_FULL, NQ_ASK_PAGE, 1));
+    CHECK(answers(written(4), NQ_ASK_TURN, 2, NO_WORD));
+    CHECK(answers(called, NQ_ASK_PAGE, 1, NO_WORD));
+    two_desks(NQ_LAST_EVENT - 6);
+    CHECK(answers(written(4), NQ_ASK_TURN, 2, NO_WORD));
+    two_desks(NQ_LAST_EVENT - 5);
+    CHECK(refuses_all(NQ_CANNOT_ARISE, 1) && refuses_all(NQ_CANNOT_ARISE, 2));
 }
 
 /* Openings: each refusal, where those after it in the order have their causes too. */
@@ -373,9 +395,8 @@ static void openings_refused(void)
 /* Calls and turns: each refusal, where those after it in the order have their causes too. */
 static void calls_and_turns_refused(void)
 {
-    two_desks(NQ_LAST_EVENT);
+    two_desks(NQ_LAST_EVENT - 6);
     CHECK(refuses(NQ_DAY_FULL, NQ_ASK_ENTRY, 1) && refuses(NQ_DAY_FULL, NQ_ASK_PAGE, 1));
-    CHECK(refuses(NQ_DAY_FULL, NQ_ASK_TURN, 2));
     CHECK(refuses(NQ_DESK_BUSY, NQ_ASK_ENTRY, 2) && refuses(NQ_DESK_BUSY, NQ_ASK_PAGE, 2));
     CHECK(refuses(NQ_DESK_IDLE, NQ_ASK_TURN, 1));
     CHECK(refuses_all(NQ_NO_SUCH_DESK, 0) && refuses_all(NQ_NO_SUCH_DESK, 3));
@@ -486,6 +507,7 @@ int main(void)
     what_does_not_count();
     most_desks();
     last_event();
+    last_calls();
     openings_refused();
     calls_and_turns_refused();
     records_refused();

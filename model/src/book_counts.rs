@@ -10,7 +10,7 @@ pub const MOST_PLACES: usize = LAST_EVENT as usize / 3;
 
 #[derive(Default)]
 pub struct BookCounts {
-    full: u64,
+    last_event: u64,
     most_places: u64,
     empty: u64,
     left_open: u64,
@@ -37,7 +37,7 @@ pub struct BookCounts {
 impl BookCounts {
     pub fn watch(&mut self, history: &History, book: &[Piece]) {
         let n = history.rows.len();
-        self.full += u64::from(history.events == LAST_EVENT);
+        self.last_event += u64::from(history.events == LAST_EVENT);
         self.most_places += u64::from(book.len() == MOST_PLACES);
         self.empty += u64::from(book.is_empty());
         self.left_open += u64::from(history.tasks.iter().any(|task| *task != Task::Idle));
@@ -74,7 +74,7 @@ impl BookCounts {
         let mut reached = Reached::default();
         let ends = [Refusal::CutShort, Refusal::UnknownKind, Refusal::WrongLength];
         let ends = ends.map(|refusal| self.ended[refusal as usize]);
-        reached.add("books of full days", &[self.full]);
+        reached.add("books of days up to event 65,535", &[self.last_event]);
         reached.add(format!("books of {MOST_PLACES} places"), &[self.most_places]);
         reached.add("empty books", &[self.empty]);
         reached.add("days with work left open", &[self.left_open]);

@@ -16,7 +16,6 @@ pub struct Counts {
     /// By number.
     pub refusals: [u64; 12],
     pub full_call: u64,
-    pub full_busy: u64,
     pub full_idle: u64,
     /// The desk of each event of the day that is being run.
     makers: Vec<u32>,
@@ -72,7 +71,6 @@ impl Counts {
         self.refusals[refusal as usize] += 1;
         if register.day.event == LAST_EVENT {
             match (record, refusal) {
-                (Some(Record::Turn { .. }), Refusal::DayFull) => self.full_busy += 1,
                 (Some(Record::Turn { .. }), Refusal::DeskIdle) => self.full_idle += 1,
                 (Some(_), Refusal::DayFull) => self.full_call += 1,
                 _ => {}

@@ -1,9 +1,11 @@
 //! Random days and deliberate schedules. A draft runs the model while it is written, so that a
 //! schedule knows which desks are busy and can place a write between two reads.
 
+mod closing;
 mod full;
 mod lending;
 
+pub use closing::{closing_day, last_day};
 pub use full::{between_refused, full_day, long_file, pages_day, refused_records};
 pub use lending::{latest_day, lending_day};
 
@@ -33,6 +35,13 @@ struct Draft {
 impl Draft {
     fn new(seed: u64) -> Self {
         Draft { file: Vec::new(), register: Register::default(), random: Random::new(seed) }
+    }
+
+    /// A day that is opened for n desks.
+    fn opened(n: u16, seed: u64) -> Self {
+        let mut draft = Draft::new(seed);
+        draft.give(Record::Open { desks: n });
+        draft
     }
 
     /// A day that is opened, but for one in fifty.
@@ -66,6 +75,10 @@ impl Draft {
 
     fn busy(&self, desk: u16) -> bool {
         self.task(desk) != Task::Idle
+    }
+
+    fn anybody_busy(&self) -> bool {
+        (1..=self.n()).any(|desk| self.busy(desk))
     }
 
     fn reading(&self, desk: u16) -> bool {
@@ -277,6 +290,15 @@ impl Draft {
                     self.write(mover, depth);
                 }
             }
+            self.turn(desk);
+        }
+    }
+
+    /// Some reads of each desk, mixed.
+    fn collect(&mut self, desks: &[u16], reads: usize) {
+        let mut turns = desks.repeat(reads);
+        self.random.shuffle(&mut turns);
+        for desk in turns {
             self.turn(desk);
         }
     }

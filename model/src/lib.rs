@@ -1,6 +1,7 @@
-//! A model of the register, written from document 01 and Figure 3 alone, in the plainest way
-//! (`register`, `dayfile`, `runner`), and of the day's book, from document 02 and Figure 1 (`book`,
-//! `claims`, `automaton`). It is the other side of the comparison with the proved register.
+//! A model of the register, written from documents 01 and 02 and Figure 3 alone, in the plainest way
+//! (`register`, `dayfile`, `runner`, and `closing` for the end of the day), and of the day's book,
+//! from document 02 and Figure 1 (`book`, `claims`, `automaton`). It is the other side of the
+//! comparison with the proved register.
 //! `baseline` is a fast day runner, which is held to the model and measures speed alone.
 
 pub mod automaton;
@@ -8,6 +9,7 @@ pub mod baseline;
 pub mod book;
 pub mod book_counts;
 pub mod claims;
+pub mod closing;
 pub mod comparison;
 pub mod counts;
 pub mod dayfile;

@@ -1,5 +1,5 @@
 //! The days that document 01 gives to check by hand, with what it states about them, and their books
-//! by document 02, worked out by hand. Day I has 65,535 events and is made by `days::full_day`.
+//! by document 02, worked out by hand. Day I has 65,535 events and is made by `days::last_day`.
 
 pub struct Case {
     pub name: &'static str,

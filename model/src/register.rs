@@ -1,11 +1,12 @@
 //! The register of document 01, "Rows, desks and the day" and "What one turn does", sentence by
-//! sentence. Each definition stands below the words that it is, in quotation marks. Desk j of the
-//! paper has place j - 1 in tables, collects and views.
+//! sentence, with the end of the day as K2 of document 02 has it. Each definition stands below the
+//! words that it is, in quotation marks. Desk j of the paper has place j - 1 in tables, collects and
+//! views.
 
 /// "A collect has eight rows and a view eight words".
 pub const PLACES: usize = 8;
 
-/// "5: the event number is 65,535".
+/// "11 is given if [...] the event number above 65,535".
 pub const LAST_EVENT: u32 = 65_535;
 
 /// "The most reads for 1 to 8 desks are 2, 8, 18, 32, 50, 72, 98, 128. These are 2n²."
@@ -24,7 +25,8 @@ pub enum Refusal {
     DeskBusy = 3,
     /// "a turn for an idle desk"
     DeskIdle = 4,
-    /// "the event number is 65,535"
+    /// "when, for a call, the event number plus 1, plus all turns owed, plus the greatest number for
+    /// the new task, exceeds 65,535"
     DayFull = 5,
     /// "the desk table has not exactly n records, or, on a turn, the page list has fewer than n
     /// words"
@@ -73,6 +75,31 @@ pub enum Task {
         word: u32,
         at: u32,
     },
+}
+
+impl Task {
+    /// "its greatest number of turns (2n² for a page, 2n²+1 for an entry)"
+    pub fn greatest(&self, n: u32) -> u32 {
+        match self {
+            Task::Idle => 0,
+            Task::Page { .. } => most_reads(n),
+            Task::Entry { .. } | Task::Ready { .. } => most_reads(n) + 1,
+        }
+    }
+
+    /// "Each but the first carries the accepted turns it has had".
+    pub fn turns(&self) -> u32 {
+        match *self {
+            Task::Idle => 0,
+            Task::Page { turns } | Task::Entry { turns, .. } | Task::Ready { turns, .. } => turns,
+        }
+    }
+
+    /// "A task owes its greatest number of turns [...] less the turns it has had." One that has had
+    /// more, as only a damaged day has it, owes none.
+    pub fn owed(&self, n: u32) -> u32 {
+        self.greatest(n).saturating_sub(self.turns())
+    }
 }
 
 /// "A record holds the desk's row, its task and what it has collected: 2n rows as read, one place
@@ -150,12 +177,16 @@ impl Day {
     fn call(&mut self, table: &mut [Desk], desk: u32, task: Task) -> Result<(), Refusal> {
         let size_wrong = table.len() != self.desks as usize;
         self.refuse_any(table, size_wrong, desk)?;
+        let all_owed = self.all_owed(table);
         let record = &mut table[desk as usize - 1];
         // "then 3 or 4, then 5"
         if record.task != Task::Idle {
             return Err(Refusal::DeskBusy);
         }
-        if self.event == LAST_EVENT {
+        // "5 when, for a call, the event number plus 1, plus all turns owed, plus the greatest number
+        // for the new task, exceeds 65,535"
+        let greatest = task.greatest(self.desks);
+        if u64::from(self.event) + 1 + all_owed + u64::from(greatest) > u64::from(LAST_EVENT) {
             return Err(Refusal::DayFull);
         }
         // "Every accepted call or turn adds 1 to the event number; that is its own number."
@@ -179,12 +210,9 @@ impl Day {
         self.refuse_any(table, size_wrong, desk)?;
         let rows: Vec<Row> = table.iter().map(|record| record.row).collect();
         let record = &mut table[desk as usize - 1];
-        // "then 3 or 4, then 5"
+        // "then 3 or 4, then 5", but of 5 "a turn never meets it now".
         if record.task == Task::Idle {
             return Err(Refusal::DeskIdle);
-        }
-        if self.event == LAST_EVENT {
-            return Err(Refusal::DayFull);
         }
         // "Every accepted call or turn adds 1 to the event number; that is its own number."
         self.event += 1;
@@ -209,6 +237,11 @@ impl Day {
         Ok(())
     }
 
+    /// "all turns owed"
+    pub fn all_owed(&self, table: &[Desk]) -> u64 {
+        table.iter().map(|record| u64::from(record.task.owed(self.desks))).sum()
+    }
+
     /// "Number 11 is given if the desk count is above 8, the event number above 65,535, or if in any
     /// of the n records the desk's own row has a seq or at above the event number, a task being read
     /// has had more than 2n²−1 turns, or an entry ready to write more than 2n²."
@@ -231,7 +264,8 @@ impl Day {
                 return true;
             }
         }
-        false
+        // "11 also when event number plus all turns owed exceeds 65,535."
+        u64::from(self.event) + self.all_owed(table) > u64::from(LAST_EVENT)
     }
 }
 

@@ -2,7 +2,7 @@
 //! taken.
 
 use model::baseline::{self, Broken};
-use model::days::{full_day, long_file, random_day};
+use model::days::{closing_day, full_day, last_day, long_file, random_day};
 use model::papers::{CASES, ENDINGS};
 use model::{runner, text};
 use std::io::{self, Read, Write};
@@ -33,7 +33,9 @@ fn it_is_the_model_on_random_days() {
 #[test]
 fn it_is_the_model_on_long_and_full_days() {
     for n in 1..=8 {
-        alike("a full day", &full_day(n, true, n.into()));
+        alike("a full day", &full_day(n, n.into()));
+        alike("a day up to the last event", &last_day(n));
+        alike("a closing day", &closing_day(n.into()));
     }
     for more in 1..=10 {
         alike("a long file", &long_file((1 << 16) + more, more as u64));

@@ -84,7 +84,7 @@ fn a_file_that_breaks_off_has_the_book_of_the_records_before() {
 
 #[test]
 fn the_claims_hold() {
-    let special = [full_day(1, true, 1), full_day(5, true, 5), latest_day(4)];
+    let special = [full_day(1, 1), full_day(5, 5), latest_day(4)];
     let random = (1..=500).flat_map(|seed| [random_day(seed), lending_day(seed)]);
     for file in random.chain(special) {
         let history = History::of(&file);

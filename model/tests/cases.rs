@@ -1,6 +1,7 @@
-//! The days of document 01, A to J, by their stated results.
+//! The days of document 01, A to J, by their stated results, I as K2 of document 02 keeps it.
 
-use model::days::full_day;
+use model::dayfile::{self, Record};
+use model::days::{last_day, pages_day};
 use model::papers::{missing, Case, CASES, ENDINGS};
 use model::register::{most_reads, Day, Desk, Refusal, Turn, LAST_EVENT};
 use model::{runner, text};
@@ -93,10 +94,11 @@ fn h_page_lists() {
     }
 }
 
+/// "Case I keeps its call and its idle desk only."
 #[test]
 fn i_the_last_event() {
-    for (n, busy) in [(1, false), (1, true), (2, true), (8, true)] {
-        let printed = printed(&full_day(n, busy, 1));
+    for n in 1..=8 {
+        let printed = printed(&last_day(n));
         let lines: Vec<&str> = printed.lines().collect();
         let first = format!("{LAST_EVENT} ");
         let last = lines.iter().position(|line| line.starts_with(&first)).unwrap();
@@ -104,13 +106,21 @@ fn i_the_last_event() {
         assert_eq!(after.last(), Some(&"end 65535"));
         // Desks 0 and n+1 with three records each, an opening and the end.
         let desks = &after[3..after.len() - 5];
-        for answers in desks.chunks(3) {
-            let idle = ["refused 5", "refused 5", "refused 4"];
-            let waiting = ["refused 3", "refused 3", "refused 5"];
-            assert!(answers == idle || answers == waiting, "{answers:?}");
-        }
-        assert!(n == 1 || desks.contains(&"refused 3") && desks.contains(&"refused 4"));
+        assert_eq!(desks, ["refused 5", "refused 5", "refused 4"].repeat(n.into()));
     }
+}
+
+#[test]
+fn i_pages_of_one_desk() {
+    let mut file = pages_day(1, None);
+    for record in [Record::Page { desk: 1 }, Record::Turn { desk: 1 }] {
+        dayfile::write(record, &mut file);
+    }
+    let printed = printed(&file);
+    let lines: Vec<&str> = printed.lines().collect();
+    let last = "65535 page 1 from 0 at 65534 turns 2 words 0";
+    assert_eq!(lines[lines.len() - 4..], [last, "refused 5", "refused 4", "end 65535"]);
+    assert_eq!(lines.iter().filter(|line| line.contains("page")).count(), 21_845);
 }
 
 #[test]

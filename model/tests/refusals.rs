@@ -21,12 +21,19 @@ fn table(n: usize) -> Vec<Desk> {
     vec![rubbish(); n]
 }
 
-/// All four doings with a desk, each refused so and changing nothing.
+/// Both calls of a desk, each refused so and changing nothing.
+fn refuse_calls(day: Day, table: &[Desk], desk: u32, refusal: Refusal) {
+    let (mut now, mut lent) = (day, table.to_vec());
+    assert_eq!(now.entry(&mut lent, desk, 7), Err(refusal));
+    assert_eq!(now.page(&mut lent, desk), Err(refusal));
+    assert_eq!((now, lent), (day, table.to_vec()));
+}
+
+/// The same, and a turn.
 fn refuse(day: Day, table: &[Desk], desk: u32, words: usize, calls: Refusal, turn: Refusal) {
+    refuse_calls(day, table, desk, calls);
     let (mut now, mut lent) = (day, table.to_vec());
     let mut page = vec![9; words];
-    assert_eq!(now.entry(&mut lent, desk, 7), Err(calls));
-    assert_eq!(now.page(&mut lent, desk), Err(calls));
     assert_eq!(now.turn(&mut lent, desk, &mut page), Err(turn));
     assert_eq!((now, lent, page), (day, table.to_vec(), vec![9; words]));
 }
@@ -75,11 +82,15 @@ fn order_of_calls_and_turns() {
     refuse_all(full, &table(2), 3, 2, Refusal::NoSuchDesk);
     refuse_all(full, &table(2), 0, 2, Refusal::NoSuchDesk);
     refuse(full, &table(2), 1, 2, Refusal::DayFull, Refusal::DeskIdle);
+    // Desk 1 owes the last 8 events: no call is taken, whoever calls.
     let mut busy = table(2);
     busy[0].task = Task::Page { turns: 0 };
-    refuse(full, &busy, 1, 2, Refusal::DeskBusy, Refusal::DayFull);
-    busy[0].task = Task::Ready { turns: 0, word: 0, at: 0 };
-    refuse(full, &busy, 1, 2, Refusal::DeskBusy, Refusal::DayFull);
+    let closed = Day { desks: 2, event: LAST_EVENT - 8 };
+    refuse(closed, &busy, 2, 2, Refusal::DayFull, Refusal::DeskIdle);
+    refuse_calls(closed, &busy, 1, Refusal::DeskBusy);
+    refuse_all(closed, &busy, 3, 2, Refusal::NoSuchDesk);
+    refuse_all(full, &busy, 3, 2, Refusal::CannotHaveArisen);
+    refuse(full, &busy, 3, 1, Refusal::CannotHaveArisen, Refusal::LentSize);
 }
 
 #[test]

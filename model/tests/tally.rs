@@ -1,8 +1,8 @@
-//! Demand 3 of random days, by document 01's tally: it is fed records, answers and refusals, and
-//! sees neither the day nor its records.
+//! Demand 3 of random days and of ends of days, by document 01's tally: it is fed records, answers and
+//! refusals, and sees neither the day nor its records.
 
 use model::dayfile::Record;
-use model::days::random_day;
+use model::days::{closing_day, last_day, random_day};
 use model::register::{most_reads, Refusal, Turn};
 use model::runner::{run_watched, Done};
 
@@ -86,19 +86,28 @@ impl Tally {
     }
 }
 
+fn holds(day: &[u8]) {
+    let mut tally = Tally::default();
+    run_watched(day, |record, outcome, register| {
+        tally.feed(record, outcome, &register.page);
+        // "After the list the day's event number and the rows' words are the tally's."
+        if let Some(words) = tally.instants.last() {
+            assert_eq!(register.day.event as usize, tally.instants.len() - 1);
+            let rows = register.table.iter().take(tally.n).map(|desk| desk.row.word);
+            assert!(rows.eq(words[..tally.n].iter().copied()));
+        }
+    });
+}
+
 #[test]
 fn every_page_stood_at_its_instant() {
-    for seed in 1..=4_000 {
-        let mut tally = Tally::default();
-        let day = random_day(seed);
-        run_watched(&day, |record, outcome, register| {
-            tally.feed(record, outcome, &register.page);
-            // "After the list the day's event number and the rows' words are the tally's."
-            if let Some(words) = tally.instants.last() {
-                assert_eq!(register.day.event as usize, tally.instants.len() - 1);
-                let rows = register.table.iter().take(tally.n).map(|desk| desk.row.word);
-                assert!(rows.eq(words[..tally.n].iter().copied()));
-            }
-        });
+    (1..=4_000).for_each(|seed| holds(&random_day(seed)));
+}
+
+#[test]
+fn up_to_the_end_of_the_day() {
+    for n in 1..=8 {
+        holds(&last_day(n));
+        holds(&closing_day(n.into()));
     }
 }

@@ -41,18 +41,27 @@
 //!
 //! # Full days
 //!
-//! After 65,535 events a day is full, and what would be another is refused with
-//! [`DayFull`](Refusal::DayFull). Go on with a new [`Register`]. Calls under way and rows are lost;
-//! what stood in the rows can be entered again.
+//! A day has at most 65,535 events. A call is taken only if it and all calls under way can be ended
+//! on the same day, whatever turns they come to need; else it is refused with
+//! [`DayFull`](Refusal::DayFull), as a turn never is. Finish what is under way then. It may end
+//! sooner than it could, so that a call is taken again. In the end go on with a new [`Register`]:
+//! rows are lost, but what stood in them can be entered again.
 //!
 //! ```
-//! # use nelvaquist::{Answer, Record, Refusal, Register};
+//! # use nelvaquist::{Answer, Record, Refusal, Register, Task};
 //! # let mut words = [0; Record::WORDS];
 //! # words[0] = 7;
 //! # let records = vec![Record::from_words(words), Record::default()];
-//! # let mut register = Register::from_parts(2, 65_535, records);
+//! # let mut register = Register::from_parts(2, 65_526, records);
+//! # register.page(2)?;
+//! // Desk 2 waits for a page, which can need all events that are left.
 //! assert_eq!(register.entry(1, 8), Err(Refusal::DayFull));
 //!
+//! for desk in 1..=register.desks() {
+//!     if register.task(desk) != Some(Task::Idle) {
+//!         while register.turn(desk)? == Answer::Read {}
+//!     }
+//! }
 //! let mut next = Register::new();
 //! next.open(register.desks())?;
 //! for (desk, record) in (1..).zip(register.records()) {
@@ -60,6 +69,7 @@
 //!     while next.turn(desk)? == Answer::Read {}
 //! }
 //! # assert_eq!([7, 0], [next.records()[0].word(), next.records()[1].word()]);
+//! # assert_eq!(register.entry(1, 8), Err(Refusal::DayFull));
 //! # Ok::<(), Refusal>(())
 //! ```
 //!

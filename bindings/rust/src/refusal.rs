@@ -16,9 +16,11 @@ pub enum Refusal {
     DeskBusy = 3,
     /// 4: the desk that has the turn has no call under way.
     DeskIdle = 4,
-    /// 5: the event number is 65,535, the last one of a day. Go on with a new
-    /// [`Register`](crate::Register); calls under way and rows are lost. The
-    /// [crate's page](crate#full-days) shows how to enter again what stood in the rows.
+    /// 5: the day has too few events left for another call. Of its 65,535 events those that calls
+    /// under way can still need are kept for them, so that they can always be ended on the same day.
+    /// Finish them, and go on with a new [`Register`](crate::Register); rows are lost. The
+    /// [crate's page](crate#full-days) shows how, and how to enter again what stood in the rows. No
+    /// turn is refused so.
     DayFull = 5,
     /// 6: there is not exactly one record for each desk of the day, or the page list of a turn has
     /// fewer words than the day has desks.
@@ -33,7 +35,8 @@ pub enum Refusal {
     OpenState = 10,
     /// 11: the day cannot have arisen. Its desk count is above 8, its event number above 65,535, or
     /// a record has a row that is newer than the day, an unknown task, or a task that has had more
-    /// turns than any can need.
+    /// turns than any can need; or the calls under way can need more turns than the day has events
+    /// left.
     CannotArise = 11,
 }
 
@@ -78,7 +81,7 @@ impl fmt::Display for Refusal {
             Refusal::NoSuchDesk => "the day has no desk of that number",
             Refusal::DeskBusy => "the desk has a call under way",
             Refusal::DeskIdle => "the desk has no call under way",
-            Refusal::DayFull => "the day has had its last event",
+            Refusal::DayFull => "the day has too few events left for another call",
             Refusal::LentSize => "there is not one record for each desk, or the page list is short",
             Refusal::CutShort => "the day file is cut short",
             Refusal::UnknownKind => "the day file has a record of an unknown kind",

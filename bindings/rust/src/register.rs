@@ -139,7 +139,8 @@ impl Register {
     /// Refused, in this order, with [`OpenState`](Refusal::OpenState) if the day is not open,
     /// [`LentSize`](Refusal::LentSize) or [`CannotArise`](Refusal::CannotArise) if it was taken up
     /// damaged, [`NoSuchDesk`](Refusal::NoSuchDesk), [`DeskBusy`](Refusal::DeskBusy) if the desk
-    /// has a call under way, and [`DayFull`](Refusal::DayFull).
+    /// has a call under way, and [`DayFull`](Refusal::DayFull) if the day has too few events left to
+    /// end it beside all calls under way, whatever turns they come to need.
     pub fn entry(&mut self, desk: u32, word: u32) -> Result<(), Refusal> {
         self.step(Request::Entry { desk, word }, &mut []).map(|_| ())
     }
@@ -159,7 +160,7 @@ impl Register {
     /// # Errors
     ///
     /// Refused as an [entry call](Self::entry), but with [`DeskIdle`](Refusal::DeskIdle) if the
-    /// desk has no call under way.
+    /// desk has no call under way, and never with [`DayFull`](Refusal::DayFull).
     pub fn turn(&mut self, desk: u32) -> Result<Answer, Refusal> {
         self.step(Request::Turn { desk }, &mut [0; Register::MOST_DESKS])
     }

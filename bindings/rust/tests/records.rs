@@ -256,7 +256,8 @@ fn damaged_words() {
         let desks = if fits { 1 + random.below(8) } else { random.below(12) * random.below(2) };
         let event = match random.below(8) {
             _ if !fits => word(&mut random),
-            0 => 65_535 - random.below(3),
+            // Near the end of the day, whatever is owed.
+            0..=2 => 65_535 - random.below(desks * (2 * desks * desks + 2)),
             _ => random.below(65_536),
         };
         let count = if random.below(20) == 0 { random.below(12) } else { desks };

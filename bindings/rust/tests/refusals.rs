@@ -36,7 +36,7 @@ fn numbers_and_sentences() {
         "an opening of an open day, or another request before the opening"
     );
     let error: Box<dyn std::error::Error + Send + Sync> = Box::new(Refusal::DayFull);
-    assert_eq!(error.to_string(), "the day has had its last event");
+    assert_eq!(error.to_string(), "the day has too few events left for another call");
 }
 
 #[test]
@@ -102,20 +102,52 @@ fn page_lists() {
     }
 }
 
+/// A day for two desks, of which the first has had some turns of a page, which can need 8.
+fn reading(event: u32, turns: u32) -> Register {
+    let mut words = [0; Record::WORDS];
+    (words[11], words[14]) = (1, turns);
+    Register::from_parts(2, event, vec![Record::from_words(words), Record::default()])
+}
+
 #[test]
 fn full_days() {
-    let mut register = opened(2);
+    for (turns, owed) in [(0, 8), (3, 5), (7, 1)] {
+        // A page of desk 2 can need 8 turns, its entry 9.
+        let last = 65_535 - owed - 9;
+        assert_eq!(reading(last, turns).page(2), Ok(()));
+        assert_eq!(reading(last - 1, turns).entry(2, 7), Ok(()));
+        assert_eq!(reading(last, turns).entry(2, 7), Err(Refusal::DayFull));
+        assert_eq!(reading(last + 1, turns).page(2), Err(Refusal::DayFull));
+
+        let mut full = reading(65_535 - owed, turns);
+        assert_eq!(refused(&mut full, Request::Page { desk: 2 }, &mut []), 5);
+        assert_eq!(refused(&mut full, Request::Entry { desk: 2, word: 7 }, &mut []), 5);
+        assert_eq!(full.page(1), Err(Refusal::DeskBusy));
+        assert_eq!(full.turn(2), Err(Refusal::DeskIdle));
+        while full.turn(1).unwrap() == Answer::Read {}
+        assert!(full.event() <= 65_535);
+
+        let mut past = reading(65_536 - owed, turns);
+        for desk in [1, 2] {
+            assert_eq!(refused(&mut past, Request::Page { desk }, &mut []), 11);
+            assert_eq!(refused(&mut past, Request::Turn { desk }, &mut [5; 8]), 11);
+        }
+    }
+}
+
+#[test]
+fn the_last_event() {
+    let idle = || vec![Record::default()];
+    let mut register = Register::from_parts(1, 65_532, idle());
+    assert_eq!(register.entry(1, 7), Err(Refusal::DayFull));
     register.page(1).unwrap();
-    let records = register.records().to_vec();
-    let mut last = Register::from_parts(2, 65_534, records.clone());
-    assert_eq!(last.turn(1), Ok(Answer::Read));
-    assert_eq!(last.event(), 65_535);
-    assert_eq!(last.turn(1), Err(Refusal::DayFull));
-    assert_eq!(last.page(2), Err(Refusal::DayFull));
-    assert_eq!(last.entry(2, 7), Err(Refusal::DayFull));
-    assert_eq!(last.page(1), Err(Refusal::DeskBusy));
-    assert_eq!(last.turn(2), Err(Refusal::DeskIdle));
-    let mut past = Register::from_parts(2, 65_536, records);
+    assert_eq!(register.turn(1), Ok(Answer::Read));
+    assert!(matches!(register.turn(1), Ok(Answer::Page(_))));
+    assert_eq!(register.event(), 65_535);
+    assert_eq!(register.page(1), Err(Refusal::DayFull));
+    assert_eq!(register.entry(1, 7), Err(Refusal::DayFull));
+    assert_eq!(register.turn(1), Err(Refusal::DeskIdle));
+    let mut past = Register::from_parts(1, 65_536, idle());
     assert_eq!(past.turn(1), Err(Refusal::CannotArise));
 }
 

@@ -1,15 +1,16 @@
 -- Refusals as the code finds them, from the day, the size of the table and what was seen of the records: in two parts, since that
 -- a process has a record is known only once the first has passed. That they are the day's refusals is proved (proofs/Checked).
-use Prim.Native.Nat.{ℕ}
+use Prim.Native.Nat.{ℕ, _+_, _-_}
 use mathlib.Core.Bool.{Bool, true, false, cond, not, _&&_, _||_}
 use mathlib.Core.List.{List, [], _∷_}
 use mathlib.Core.Option.{Option, none, some}
-use lib.Dec.{eqb, ltb}
-use Rattle.snapshot.specs.Refusals.{Cause, firstCause}
+use lib.Dec.{eqb, leb, ltb}
+use Rattle.snapshot.specs.Refusals.{Cause, firstCause, outside, isPast}
 use Rattle.snapshot.specs.Requests.{numberIn}
-use Rattle.snapshot.specs.Days.{outside, isFull, cannotArise}
+use Rattle.snapshot.specs.Days.{cannotArise}
 use Rattle.snapshot.specs.declared.Day.{Day}
 use Rattle.snapshot.specs.declared.Request.{Request}
+use Rattle.snapshot.specs.declared.Request.the-variants.{Open, Update, Scan, Turn}
 use Rattle.snapshot.specs.declared.Refusal.{Refusal}
 use Rattle.snapshot.specs.declared.Refusal.the-variants.{CountRange, ProcessRange, Busy, Idle, DayFull, LentSize}
 use Rattle.snapshot.specs.declared.Refusal.the-variants.{OpenState, CannotArise}
@@ -37,29 +38,49 @@ openingChecks day size k =
 abbrev pub isShort : Day → (words : ℕ) → Request → Bool
 isShort day words x = not (isCall x) && ltb words (day .count)
 
--- "For calls and turns: 10, 6, 11, 2 ..": of process d, by whether the page list is short, and whether some record is bad
-abbrev pub firstCauses : Day → (size : ℕ) → (short bad : Bool) → (d : ℕ) → List Cause
-firstCauses day size short bad d =
+-- K2: "event number plus all turns owed", one task after the other; what is past 65,535 is not added to, so that no sum overflows
+abbrev pub endWith : (end owed : ℕ) → ℕ
+endWith end owed = cond (isPast end) end (end + owed)
+
+-- s, with this event that all work ends by, and bad or not
+abbrev pub surveyWith : Survey → (end : ℕ) → (bad : Bool) → Survey
+surveyWith s end bad =
+    record { «scan_most» = s .«scan_most»; «update_most» = s .«update_most»; event = s .event; end = end; bad = bad }
+
+-- once a task is looked at too that cannot have had most turns (11): until then it owes what is left of these, and more after them
+abbrev pub waitsBy : Survey → (most more turns : ℕ) → Survey
+waitsBy s most more turns =
+    cond (leb most turns) (surveyWith s (s .end) true) (surveyWith s (endWith (s .end) (most - turns + more)) (s .bad))
+
+-- "For calls and turns: 10, 6, 11, 2 ..": of process d, by whether the page list is short, the event that all work ends by, and
+-- whether some record is bad
+abbrev pub firstCauses : Day → (size : ℕ) → (short : Bool) → (end : ℕ) → (bad : Bool) → (d : ℕ) → List Cause
+firstCauses day size short end bad d =
     (eqb (day .count) 0, OpenState)
     ∷ (not (eqb size (day .count)) || short, LentSize)
-    ∷ (cannotArise day bad, CannotArise)
+    ∷ (cannotArise (day .count) end bad, CannotArise)
     ∷ (outside 1 (day .count) d, ProcessRange)
     ∷ []
 
--- 3: "a call by a desk that isn't idle"; 4: "a turn for an idle desk" (an opening, of which it is not asked, counts as a turn)
-abbrev pub wrongState : Request → (idle : Bool) → Cause
-wrongState x idle = cond (isCall x) (not idle, Busy) (idle, Idle)
+-- K2: "the greatest number for the new task" (an opening and a turn, of which it is not asked, count as scans)
+abbrev pub mostFor : Survey → Request → ℕ
+mostFor s (Open k) = s .«scan_most»
+mostFor s (Update d w) = s .«update_most»
+mostFor s (Scan d) = s .«scan_most»
+mostFor s (Turn d) = s .«scan_most»
 
--- ".. then 3 or 4, then 5"
-abbrev pub lastCauses : (event : ℕ) → Request → (idle : Bool) → List Cause
-lastCauses event x idle = wrongState x idle ∷ (isFull event, DayFull) ∷ []
+-- ".. then 3 or 4, then 5": 3 and 5 of a call, where all work ends by event end and the new task has at most so many turns; 4 of a
+-- turn (an opening, of which it is not asked, counts as one)
+abbrev pub lastCauses : (end most : ℕ) → Request → (idle : Bool) → List Cause
+lastCauses end most x idle =
+    cond (isCall x) ((not idle, Busy) ∷ (isPast (end + 1 + most), DayFull) ∷ []) ((idle, Idle) ∷ [])
 
 -- the refusal of each check: of an opening for k processes, and the first and the last of a call or a turn, by the survey
 abbrev pub openingRefusal : Day → (size k : ℕ) → Option Refusal
 openingRefusal day size k = firstCause (openingChecks day size k)
 
 abbrev pub firstRefusal : Day → (size : ℕ) → Survey → Request → (words : ℕ) → Option Refusal
-firstRefusal day size s x words = firstCause (firstCauses day size (isShort day words x) (s .bad) (numberIn x))
+firstRefusal day size s x words = firstCause (firstCauses day size (isShort day words x) (s .end) (s .bad) (numberIn x))
 
 abbrev pub lastRefusal : Survey → Request → (idle : Bool) → Option Refusal
-lastRefusal s x idle = firstCause (lastCauses (s .event) x idle)
+lastRefusal s x idle = firstCause (lastCauses (s .end) (mostFor s x) x idle)

@@ -9,8 +9,11 @@ use snapshot::number_in;
 ghost use mathlib.Core.Path.{_≡_};
 ghost use mathlib.Core.Bool.{cond};
 ghost use mathlib.Core.Option.{some};
-ghost use Rattle.snapshot.specs.Days.{outside, cannotArise};
-ghost use Rattle.admission.specs.Checks.{asOption, isRefusal, isShort, openingRefusal, firstRefusal, lastRefusal};
+ghost use Prim.Native.Nat.{_+_, _≤_};
+ghost use Rattle.snapshot.specs.Refusals.{outside, isPast};
+ghost use Rattle.snapshot.specs.Days.{cannotArise};
+ghost use Rattle.admission.specs.Checks.{asOption, isRefusal, isShort, endWith, waitsBy, mostFor};
+ghost use Rattle.admission.specs.Checks.{openingRefusal, firstRefusal, lastRefusal};
 
 // A cause and those after it: its refusal where it holds, else theirs.
 fn cause(holds: bool, k: Refusal, rest: Check) -> Check
@@ -32,17 +35,76 @@ fn is_outside(low: u32, high: u32, k: u32) -> bool
     high < k
 }
 
-// Whether a day cannot have arisen, where some record is bad or none is.
-fn cannot_arise(day: Day, bad: bool) -> bool
-    ensures { λ b. ⌜ b ≡ cannotArise day bad ⌝ }
+// The event number plus what was owed so far, and what one task more owes.
+fn end_with(sum: u32, owed: u32) -> u32
+    requires { ⌜ owed ≤ 131070 ⌝ }
+    ensures { λ r. ⌜ r ≡ endWith sum owed ⌝ }
 {
-    if 8 < day.count {
+    if 65535 < sum {
+        return sum;
+    }
+    sum + owed
+}
+
+// What is found once a task is looked at too that cannot have had `most` turns: until then it owes these, and `more` after them.
+pub fn waits(s: Survey, most: u16, more: u16, turns: u32) -> Survey
+    ensures { λ t. ⌜ t ≡ waitsBy s most more turns ⌝ }
+{
+    if most as u32 <= turns {
+        return Survey {
+            scan_most: s.scan_most,
+            update_most: s.update_most,
+            event: s.event,
+            end: s.end,
+            bad: true,
+        };
+    }
+    let owed = most as u32 - turns + more as u32;
+    Survey {
+        scan_most: s.scan_most,
+        update_most: s.update_most,
+        event: s.event,
+        end: end_with(s.end, owed),
+        bad: s.bad,
+    }
+}
+
+// Whether a day cannot have arisen, by its count and the survey.
+fn cannot_arise(count: u32, s: Survey) -> bool
+    ensures { λ b. ⌜ b ≡ cannotArise count (s .end) (s .bad) ⌝ }
+{
+    if 8 < count {
         return true;
     }
-    if 65535 < day.event {
+    if 65535 < s.end {
         return true;
     }
-    bad
+    s.bad
+}
+
+// The most turns of the task that a call sets.
+fn most_for(s: Survey, x: Request) -> u16
+    ensures { λ r. ⌜ r ≡ mostFor s x ⌝ }
+{
+    match x {
+        Request::Open(_) => s.scan_most,
+        Request::Update {
+            process: _,
+            word: _,
+        } => s.update_most,
+        Request::Scan(_) => s.scan_most,
+        Request::Turn(_) => s.scan_most,
+    }
+}
+
+// Whether a call, and then a task of so many turns, would go past event 65,535 where all work is to end by that event.
+fn is_full(end: u32, most: u16) -> bool
+    ensures { λ b. ⌜ b ≡ isPast (end + 1 + most) ⌝ }
+{
+    if 65535 < end {
+        return true;
+    }
+    65535 < end + 1 + most as u32
 }
 
 // Whether a page list of that many words is too short for a call or a turn.
@@ -84,7 +146,7 @@ pub fn first_check(day: Day, size: usize, s: Survey, x: Request, words: usize) -
     if is_short(day, words, x) {
         return Check::Refused(Refusal::LentSize);
     }
-    if cannot_arise(day, s.bad) {
+    if cannot_arise(day.count, s) {
         return Check::Refused(Refusal::CannotArise);
     }
     if is_outside(1, day.count, number_in(x)) {
@@ -93,15 +155,19 @@ pub fn first_check(day: Day, size: usize, s: Survey, x: Request, words: usize) -
     Check::Passed
 }
 
-// The last, by whether the process is idle: 3 or 4, then 5.
+// The last, by whether the process is idle: 3 and 5 of a call, 4 of a turn.
 pub fn last_check(s: Survey, x: Request, idle: bool) -> Check
     ensures { λ c. ⌜ asOption c ≡ lastRefusal s x idle ⌝ }
 {
-    let full = cause(s.event == 65535, Refusal::DayFull, Check::Passed);
     if requests::is_call(x) {
+        let full = cause(
+            is_full(s.end, most_for(s, x)),
+            Refusal::DayFull,
+            Check::Passed,
+        );
         return cause(!idle, Refusal::Busy, full);
     }
-    cause(idle, Refusal::Idle, full)
+    cause(idle, Refusal::Idle, Check::Passed)
 }
 
 // Whether a check is a refusal.

@@ -155,7 +155,7 @@ module _ (n : ℕ) (b : Box) (t : Tally ℕ) (i : InDay n b t) where
     item-holds : (items : List Item) → Holds (method ascending n) (result b r .state) (tallyBy t (sees x) (result b r .answer)) items
     item-holds items =
         subst (λ z. Holds (method ascending n) (z .state) (tallyBy t (sees x) (z .answer)) items)
-        (sym (stepped-is-step (figure3 ascending) (lent b r) x n)) (lent-holds (x ∷ items) .2)
+        (sym (stepped-is-step (figure3 ascending) (lent b r) x n)) (lent-holds (x ∷ items) .4)
 
     count-after : after .day .count ≡ n
     count-after = stepped-count (figure3 ascending) (lent b r) x is-open ∙ i .count

@@ -4,22 +4,25 @@ use Prim.Native.Nat.{ℕ, zero, suc, _+_, _-_, _*_, _%_, _≤_, _<_}
 use native.Mathlib.Omega.{arith}
 use native.Mathlib.Nat.{zero-mod}
 use mathlib.Core.Path.{_≡_, refl, sym, ap, _∙_, subst}
-use mathlib.Core.Bool.{Bool, cond}
-use mathlib.Core.List.{List, [], _∷_, _++_, map}
+use mathlib.Core.Bool.{Bool, false, cond}
+use mathlib.Core.List.{List, [], _∷_}
 use mathlib.Core.Option.{Option, none, some, Option·none-ne-some}
-use lib.ListN.{length, getD, set, take, drop, take-append-drop}
+use lib.ListN.{length, take, drop, take-append-drop}
 use borrow.Author.Tests.{ne-eqb}
+use Rattle.snapshot.specs.Lists.{sumOf}
+use Rattle.snapshot.specs.Refusals.{firstCause}
 use Rattle.snapshot.specs.Tally.{Job, scan, update}
 use Rattle.snapshot.specs.Verdict.{verdict}
 use Rattle.snapshot.specs.Marks.{lends, Found as Finding}
 use Rattle.snapshot.specs.Demand.{Result}
-use Rattle.snapshot.specs.Days.{Machine, State, Item, openFor, updateCall, scanCall, turnOf, processOf}
+use Rattle.snapshot.specs.Days.{Machine, State, Item, openFor, updateCall, scanCall, turnOf, processOf, processOwes, callCauses}
 use Rattle.snapshot.specs.Days.{refusal, accept, openedBy, calledBy, turnBy, advance, stepped}
 use Rattle.snapshot.specs.declared.Day.{Day}
 use Rattle.snapshot.specs.declared.Refusal.{Refusal}
 use Rattle.snapshot.specs.declared.Answer.{Answer}
 use Rattle.snapshot.specs.declared.Answer.the-variants.{Refused, Opened, Called, Read, Page, Written}
-use Rattle.snapshot.proofs.Admitted.{admitted-call, admitted-turn, admitted-opening}
+use Rattle.snapshot.proofs.Admitted.{admitted-call, admitted-turn, admitted-opening, turn-room}
+use Rattle.snapshot.proofs.Lists.{map-constant, sum-set, sum-append, sum-replicate}
 use Rattle.snapshot.proofs.Stepped.{refusal-changes-nothing, acceptance-does}
 use Rattle.dayfile.specs.Files.{readings}
 use Rattle.dayfile.specs.declared.Reading.{Reading}
@@ -31,7 +34,8 @@ use Rattle.unbounded.specs.declared.Task.the-variants.{Idle, Scan, Update, Read
 use Rattle.unbounded.specs.Registers.{Order, ascending, differs}
 use Rattle.unbounded.specs.Processes.{taskOf, begin}
 use Rattle.unbounded.specs.Turns.{position, decision, found, afterRead, foundBy, scanTurn, updateTurn, turnedBy, turned}
-use Rattle.unbounded.specs.Days.{figure3}
+use Rattle.unbounded.specs.Days.{figure3, mostReads}
+use Rattle.unbounded.proofs.Limits.{busy-owes}
 use Rattle.days.specs.Asking.{lentTo}
 use Rattle.days.specs.Happenings.{Box, blankBox, outcomeIn, boxAfter, happeningIn, happenings, dayOf}
 use Rattle.book.specs.DayBooks.{bookIn}
@@ -39,28 +43,6 @@ use Rattle.book.specs.Notes.{countAfter}
 use Rattle.book.specs.Passes.{Noted, noteOf, notes, blankNoted}
 use Rattle.days.proofs.Boxes.{lent, item, unread-stays}
 use Rattle.book.proofs.Noted.{noted-count}
-
--- ---- a number of each element of a list, summed up
-
-abbrev total : {A : Type 0} → (A → ℕ) → List A → ℕ
-total f [] = 0
-total f (x ∷ l) = f x + total f l
-
-module _ {A : Type 0} (f : A → ℕ) where
-  total-append : (l m : List A) → total f (l ++ m) ≡ total f l + total f m
-  total-append [] m = omega arith
-  total-append (x ∷ l) m = omega (arith, total-append l m)
-
-  -- where one element is set
-  total-set : (l : List A) (i : ℕ) (x z : A) → i < length l → total f (set l i x) + f (getD l i z) ≡ total f l + f x
-  total-set [] i x z b = absurd (omega arith)
-  total-set (y ∷ l) zero x z b = omega arith
-  total-set (y ∷ l) (suc i) x z b = omega (arith, total-set l i x z (omega arith))
-
-  -- where every element is set to one whose number is 0
-  total-none : (x : A) → f x ≡ 0 → (l : List A) → total f (map (λ y. x) l) ≡ 0
-  total-none x q [] = refl
-  total-none x q (y ∷ l) = omega (arith, total-none x q l)
 
 -- ---- the operations that are finished
 
@@ -91,34 +73,36 @@ record Enough (d : Day) (k open-had : ℕ) : Type 0 where
 -- ---- one item, for every machine
 
 -- had: how many events the open operation of a process has had, of those that count; none at first, at most one more after a call
--- or a turn, and a turn that finishes the operation leaves two less
+-- or a turn, and a turn that finishes the operation leaves two less; a process that has a task and can have arisen owes a turn
 module _ (M : Machine) (had : M .Process → ℕ) (none-had : had (M .zeroProcess) ≡ 0)
     (calls : (n : ℕ) (j : Job) (p : M .Process) → had (M .called n j p) ≤ had p + 1)
     (turns : (n i now : ℕ) (other : M .Process) (page : List ℕ) (p : M .Process) → let r = M .turned n i now other page p in
-    3 * finishes (r .answer) + had (r .state) ≤ had p + 1) where
+    3 * finishes (r .answer) + had (r .state) ≤ had p + 1)
+    (owes : (n e : ℕ) (p : M .Process) → M .isIdle p ≡ false → M .unsound n e p ≡ false → 0 < processOwes M n p) where
   -- rest: what the operations have had that are open elsewhere
-  module _ (s : State (M .Process)) (k rest : ℕ) (e : Enough (s .day) k (total had (s .table) + rest)) where
+  module _ (s : State (M .Process)) (k rest : ℕ) (e : Enough (s .day) k (sumOf had (s .table) + rest)) where
     abbrev EnoughFor : Result (State (M .Process)) → Type 0
-    EnoughFor r = Enough (r .state .day) (k + finishes (r .answer)) (total had (r .state .table) + rest)
+    EnoughFor r = Enough (r .state .day) (k + finishes (r .answer)) (sumOf had (r .state .table) + rest)
 
     -- an event of process d, which leaves it p and finishes so many operations
     advance-enough : (d : ℕ) (p : M .Process) (done : ℕ) → 0 < s .day .count → s .day .event < 65535 → d - 1 < length (s .table) →
         3 * done + had p ≤ had (processOf M s d) + 1 →
-        let t = advance M s d p in Enough (t .day) (k + done) (total had (t .table) + rest)
+        let t = advance M s d p in Enough (t .day) (k + done) (sumOf had (t .table) + rest)
     unfolding advance
     advance-enough d p done opened room inside q =
-        let h = total-set had (s .table) (d - 1) p (M .noProcess) inside in
+        let h = sum-set had (s .table) (d - 1) p (M .noProcess) inside in
         let m = e .events in
         record { unopened = λ z. absurd (omega arith); limit = omega arith; events = omega arith }
 
-    call-enough : (d : ℕ) (j : Job) → refusal M s (scanCall d) ≡ none →
-        let t = calledBy M s d j in Enough (t .day) (k + 0) (total had (t .table) + rest)
-    unfolding refusal calledBy
+    call-enough : (d : ℕ) (j : Job) → firstCause (callCauses M s d j) ≡ none →
+        let t = calledBy M s d j in Enough (t .day) (k + 0) (sumOf had (t .table) + rest)
+    unfolding calledBy
     call-enough d j q =
-        let a = admitted-call M s d q in
+        let a = admitted-call M s d j q in
         let n = s .day .count in
         let p = processOf M s d in
-        advance-enough d (M .called n j p) 0 (a .suited .opened) (a .room) (omega arith) (omega (arith, calls n j p))
+        let room = a .room in
+        advance-enough d (M .called n j p) 0 (a .suited .opened) (omega arith) (omega arith) (omega (arith, calls n j p))
 
     -- an opening is accepted where nothing has happened yet
     accepted-enough : (x : Item) → refusal M s x ≡ none → EnoughFor (accept M s x)
@@ -126,14 +110,15 @@ module _ (M : Machine) (had : M .Process → ℕ) (none-had : had (M .zeroProces
     accepted-enough (openFor n) q =
         let z = e .unopened (admitted-opening M s n q) in
         let m = e .events in
-        let t = total-none had (M .zeroProcess) none-had (s .table) in
+        let t = ap (sumOf had) (map-constant (M .zeroProcess) (s .table)) ∙ sum-replicate had (length (s .table)) (M .zeroProcess) none-had in
         record { unopened = λ c. refl; limit = omega arith; events = omega arith }
     accepted-enough (updateCall d w) q = call-enough d (update d w) q
     accepted-enough (scanCall d) q = call-enough d scan q
     accepted-enough (turnOf d page) q =
         let a = admitted-turn M s d page q in
         let r = turnBy M s d page in
-        advance-enough d (r .state) (finishes (r .answer)) (a .suited .opened) (a .room) (omega arith)
+        advance-enough d (r .state) (finishes (r .answer)) (a .suited .opened)
+        (turn-room M s d page a (owes (s .day .count) (s .day .event))) (omega arith)
         (turns _ _ _ _ page (processOf M s d))
 
     stepped-enough : (x : Item) → EnoughFor (stepped M s x)
@@ -143,7 +128,7 @@ module _ (M : Machine) (had : M .Process → ℕ) (none-had : had (M .zeroProces
         go none q = subst EnoughFor (sym (acceptance-does M s x q)) (accepted-enough x q)
         go (some c) q =
             subst EnoughFor (sym (refusal-changes-nothing M s x c q))
-            (subst (λ m. Enough (s .day) m (total had (s .table) + rest)) (omega arith) e)
+            (subst (λ m. Enough (s .day) m (sumOf had (s .table) + rest)) (omega arith) e)
 
 -- ---- a process of Figure 3
 
@@ -215,14 +200,14 @@ module _ (o : Order) (n : ℕ) where
 -- ---- a day file
 
 abbrev hadIn : List Process → ℕ
-hadIn ps = total hadOf ps
+hadIn ps = sumOf hadOf ps
 
 item-enough : (s : State Process) (k rest : ℕ) → Enough (s .day) k (hadIn (s .table) + rest) → (x : Item) →
     let r = stepped (figure3 ascending) s x in
     Enough (r .state .day) (k + finishes (r .answer)) (hadIn (r .state .table) + rest)
 item-enough =
     stepped-enough (figure3 ascending) hadOf refl called-leaves
-    (λ n i now other page p. turned-leaves ascending n now (other .register) page p)
+    (λ n i now other page p. turned-leaves ascending n now (other .register) page p) (λ n e p. busy-owes (mostReads n) e p)
 
 -- in a box, where k operations are finished
 abbrev EnoughIn : ℕ → Box → Type 0
@@ -233,13 +218,13 @@ module _ (b : Box) (k : ℕ) (e : EnoughIn k b) where
   parted : (n : ℕ) → Enough (b .day) k (hadIn (take n (b .table)) + hadIn (drop n (b .table)))
   parted n =
       subst (Enough (b .day) k)
-      (ap hadIn (sym (take-append-drop n (b .table))) ∙ total-append hadOf (take n (b .table)) (drop n (b .table))) e
+      (ap hadIn (sym (take-append-drop n (b .table))) ∙ sum-append hadOf (take n (b .table)) (drop n (b .table))) e
 
   reading-enough : (x : Reading) → EnoughIn (countAfter k (outcomeIn b x .answer)) (boxAfter b x)
   unfolding countAfter
   reading-enough (Found r next) =
       let n = lentTo (b .day) r in
-      rw (total-append hadOf, ← count-finishes k) (item-enough (lent b r) k (hadIn (drop n (b .table))) (parted n) (item b r))
+      rw (sum-append hadOf, ← count-finishes k) (item-enough (lent b r) k (hadIn (drop n (b .table))) (parted n) (item b r))
   reading-enough End = subst (EnoughIn k) (sym (unread-stays b End tt)) e
   reading-enough (Broken c) = subst (EnoughIn k) (sym (unread-stays b (Broken c) tt)) e
 

@@ -8,7 +8,7 @@ use borrow.Author.Tests.{lt-ltb, le-ltb}
 use types.Run.{OneOf, miss}
 use denote.Enum.Declared.{tagOf}
 use Rattle.snapshot.specs.Requests.{numberIn}
-use Rattle.snapshot.specs.Days.{outside}
+use Rattle.snapshot.specs.Refusals.{outside}
 use Rattle.snapshot.specs.declared.Answer.{Answer}
 use Rattle.snapshot.specs.declared.Answer.the-variants.{Refused, Opened, Called, Read, Page, Written}
 use Rattle.snapshot.specs.declared.Request.{Request}

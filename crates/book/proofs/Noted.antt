@@ -15,7 +15,8 @@ use borrow.Author.Tests.{leb-true, leb-false, le-leb, lt-leb}
 use Rattle.snapshot.specs.Lists.{All, Pairs, place, places}
 use Rattle.snapshot.specs.Tally.{Job, scan, update, Seen, Call, Tally, started, callOf, advanced, opens, gains, puts, putsIf, tallied}
 use Rattle.snapshot.specs.Demand.{Among, PageFits, WrittenFits, IsUpdate, Waiting}
-use Rattle.snapshot.specs.Days.{sees, outside}
+use Rattle.snapshot.specs.Refusals.{outside}
+use Rattle.snapshot.specs.Days.{sees}
 use Rattle.snapshot.specs.Book.{Operation, operations, finishedBy, tallyAfter, finished}
 use Rattle.snapshot.specs.declared.Answer.{Answer}
 use Rattle.snapshot.specs.declared.Answer.the-variants.{Refused, Opened, Called, Read, Page, Written}

@@ -5,7 +5,7 @@ use mathlib.Core.List.{List, [], _∷_, _++_}
 use lib.Dec.{leb}
 use lib.ListN.{length, getD, set, take, drop}
 use Rattle.snapshot.specs.Requests.{numberIn}
-use Rattle.snapshot.specs.Days.{outside}
+use Rattle.snapshot.specs.Refusals.{outside}
 use Rattle.snapshot.specs.declared.Answer.{Answer}
 use Rattle.snapshot.specs.declared.Answer.the-variants.{Refused, Opened, Called, Read, Page, Written}
 use Rattle.snapshot.specs.declared.Request.{Request}

@@ -6,7 +6,8 @@ use Rattle.snapshot.specs.Demand.{step}
 use Rattle.snapshot.specs.Verdict.{verdict}
 use Rattle.snapshot.specs.Marks.{isMoved, withMoved, lends}
 use Rattle.snapshot.specs.Days as Days
-use Rattle.snapshot.specs.Days.{isFull, refusal, openedBy, advance, calledBy, turnBy, accept}
+use Rattle.snapshot.specs.Refusals.{isPast}
+use Rattle.snapshot.specs.Days.{refusal, openedBy, advance, calledBy, turnBy, accept}
 use Rattle.unbounded.specs.Registers.{laid, readInto, cleared, pageOf, differs}
 use Rattle.unbounded.specs.Processes.{begin}
 use Rattle.unbounded.specs.Turns.{position, placeAt, firstAfter, secondAfter, endAfter, decision, marksAfter, afterRead, foundBy}
@@ -28,5 +29,5 @@ use Rattle.booklines.specs.BookText.{bookText}
 pub case-a :
     (bookText (bookIn caseA) ≡ ascii "4 entry 1 7\n" ++ ascii "6 page 1 words 7\n" ++ ascii "end 2\n")
     × (bookText (bookIn []) ≡ ascii "end 0\n")
-unfolding bookText bookIn dayOf readings readingsUpTo reading recordOf lengthOf lentTo textOf bodyOf decimal Days.stepped step verdict laid readInto cleared pageOf differs isMoved withMoved lends begin position placeAt firstAfter secondAfter endAfter decision marksAfter afterRead foundBy written turned mostReads isFull unsound refusal advance openedBy calledBy turnBy accept
+unfolding bookText bookIn dayOf readings readingsUpTo reading recordOf lengthOf lentTo textOf bodyOf decimal Days.stepped step verdict laid readInto cleared pageOf differs isMoved withMoved lends begin position placeAt firstAfter secondAfter endAfter decision marksAfter afterRead foundBy written turned mostReads isPast unsound refusal advance openedBy calledBy turnBy accept
 case-a = (refl, refl)

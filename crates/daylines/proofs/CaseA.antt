@@ -6,7 +6,8 @@ use Rattle.snapshot.specs.Demand.{step}
 use Rattle.snapshot.specs.Verdict.{verdict}
 use Rattle.snapshot.specs.Marks.{isMoved, withMoved, lends}
 use Rattle.snapshot.specs.Days as Days
-use Rattle.snapshot.specs.Days.{isFull, refusal, openedBy, advance, calledBy, turnBy, accept}
+use Rattle.snapshot.specs.Refusals.{isPast}
+use Rattle.snapshot.specs.Days.{refusal, openedBy, advance, calledBy, turnBy, accept}
 use Rattle.snapshot.specs.declared.Request.the-variants.{Open, Update, Scan, Turn}
 use Rattle.unbounded.specs.Registers.{laid, readInto, cleared, pageOf, differs}
 use Rattle.unbounded.specs.Processes.{begin}
@@ -57,5 +58,5 @@ pub case-a :
     × (printed (layout (Open 1) ++ (4 ∷ [])) ≡ ascii "open 1\n" ++ ascii "refused 7\n" ++ ascii "end 0\n")
     × (printedUntil (layout (Open 1) ++ (4 ∷ [])) ≡ ascii "open 1\n")
     × (printed ((4 ∷ 0 ∷ 9 ∷ 0 ∷ 1 ∷ 0 ∷ []) ++ layout (Open 1)) ≡ ascii "refused 8\n" ++ ascii "end 0\n")
-unfolding printout dayOf readings readingsUpTo reading recordOf lengthOf lentTo textOf bodyOf decimal Days.stepped step verdict laid readInto cleared pageOf differs isMoved withMoved lends begin position placeAt firstAfter secondAfter endAfter decision marksAfter afterRead foundBy written turned mostReads isFull unsound refusal advance openedBy calledBy turnBy accept
+unfolding printout dayOf readings readingsUpTo reading recordOf lengthOf lentTo textOf bodyOf decimal Days.stepped step verdict laid readInto cleared pageOf differs isMoved withMoved lends begin position placeAt firstAfter secondAfter endAfter decision marksAfter afterRead foundBy written turned mostReads isPast unsound refusal advance openedBy calledBy turnBy accept
 case-a = (refl, refl, refl, refl, refl, refl)

@@ -8,11 +8,9 @@ use mathlib.Core.List.{List, [], map, foldl}
 use mathlib.Core.Option.{Option, none, some}
 use lib.Dec.{T}
 use lib.ListN.{length, getD, set, replicate, length-replicate}
-use Rattle.snapshot.specs.Lists.{someOf}
-use Rattle.snapshot.specs.Refusals.{firstCause}
 use Rattle.snapshot.specs.Requests.{numberIn}
 use Rattle.snapshot.specs.Demand.{Result, step}
-use Rattle.snapshot.specs.Days.{State, Item, openFor, pageLent, processOf, openedBy, advance, calledBy, accept}
+use Rattle.snapshot.specs.Days.{State, Item, openFor, pageLent, openedBy, advance, calledBy, accept}
 use Rattle.snapshot.specs.Days as Days
 use Rattle.snapshot.specs.declared.Day.{Day}
 use Rattle.snapshot.specs.declared.Outcome.{Outcome}
@@ -22,12 +20,11 @@ use Rattle.snapshot.specs.declared.Request.the-variants.{Open, Update, Scan, Tu
 use Rattle.snapshot.specs.declared.Answer.the-variants.{Called}
 use Rattle.snapshot.proofs.Lists.{some-of-false}
 use Rattle.requests.specs.Requests.{itemOf, pageAfter, isOpening, isCall}
-use Rattle.admission.specs.Checks.{isRefusal, lastCauses, openingRefusal, firstRefusal, lastRefusal}
+use Rattle.admission.specs.Checks.{isRefusal, openingRefusal, firstRefusal, lastRefusal}
 use Rattle.admission.specs.Outcomes.{refusedOutcome, acceptedOutcome, openedOutcome}
 use Rattle.admission.specs.declared.Survey.{Survey}
-use Rattle.snapshot.proofs.Admitted.{someBad}
 use Rattle.admission.proofs.Checked.{opening-checks, refused-some, Passed, Accepted, accepted-item, accepted-turn}
-use Rattle.admission.proofs.Checked.{first-refuses, first-passes}
+use Rattle.admission.proofs.Checked.{first-refuses, first-passes, last-refuses}
 use Rattle.unbounded.specs.declared.Register.{Register}
 use Rattle.unbounded.specs.declared.Process.{Process}
 use Rattle.unbounded.specs.declared.Task.{Task}
@@ -43,7 +40,8 @@ use Rattle.unbounded_turns.specs.Steps.{begunBy, stateBy}
 use Rattle.unbounded_tasks.specs.Tasks.{taskFor, answerBy}
 use Rattle.unbounded_tasks.specs.Surveys.{surveyOf, surveyedBy}
 use Rattle.unbounded_turns.proofs.Steps.{access-count, Accessed, a-read, a-write, turn-is-steps}
-use Rattle.unbounded_tasks.proofs.Unsound.{survey-is-bad, reads-up-to-8, sound-has-room}
+use Rattle.unbounded.proofs.Limits.{busy-owes}
+use Rattle.unbounded_tasks.proofs.Looks.{surveyed-table, sound-has-room}
 use Rattle.memory.specs.Tables.{stateOf, outcomeOf, refusalIn, acceptedIn}
 use Rattle.memory.specs.Turning.{TurnAt, readAt, foundAt}
 
@@ -130,12 +128,6 @@ module _ (day : Day) (ps : List Process) where
   abbrev surveyed : Survey
   surveyed = foldl surveyedBy (surveyOf day) ps
 
-  -- what the survey says of the records is so, on a day for 1 to 8 processes
-  seen : 0 < day .count → day .count ≤ 8 → surveyed .bad ≡ someBad (figure3 ascending) s
-  seen l m =
-      ap (λ v. v .bad) (survey-is-bad day ps)
-      ∙ ap (λ k. someOf (unsound k (day .event)) ps) (reads-up-to-8 (day .count) l m)
-
   module _ (x : Request) (item : T (not (isOpening x))) (words : ℕ) where
     abbrev first : Option Refusal
     first = firstRefusal day (length ps) surveyed x words
@@ -145,20 +137,14 @@ module _ (day : Day) (ps : List Process) where
     plan-refuses c e h page q =
         let k = refused-some c h in
         k .1
-        ∙ sym (first-refuses (figure3 ascending) (λ n. refl) s page x item (surveyed .bad) seen (k .0)
+        ∙ sym (first-refuses (figure3 ascending) (λ n. refl) s page x item surveyed (surveyed-table s) (k .0)
         (ap (firstRefusal day (length ps) surveyed x) q ∙ sym e ∙ k .1))
 
     module _ (passed : first ≡ none) where
-      passes : (page : List ℕ) → length page ≡ words →
-          (refusalIn s (itemOf page x) ≡ firstCause (lastCauses (day .event) x
-          (isIdle (processOf (figure3 ascending) s (numberIn x) .task))))
-          × Passed (figure3 ascending) s page x
-      passes page q =
-          first-passes (figure3 ascending) (λ n. refl) s page x item (surveyed .bad) seen
-          (ap (firstRefusal day (length ps) surveyed x) q ∙ passed)
-
       suits : Passed (figure3 ascending) s (replicate words 0) x
-      suits = passes (replicate words 0) (length-replicate words 0) .1
+      suits =
+          first-passes (figure3 ascending) (λ n. refl) s (replicate words 0) x item surveyed (surveyed-table s)
+          (ap (firstRefusal day (length ps) surveyed x) (length-replicate words 0) ∙ passed)
 
       -- the process is one of the table's
       pub plan-number : 0 < numberIn x
@@ -168,18 +154,17 @@ module _ (day : Day) (ps : List Process) where
       plan-inside = let n = suits .among in let l = suits .size in omega arith
 
       pub plan-last : (page : List ℕ) → length page ≡ words →
-          lastRefusal surveyed x (isIdle (getD ps (numberIn x - 1) noProcess .task)) ≡ refusalIn s
-          (itemOf page x)
+          lastRefusal surveyed x (isIdle (getD ps (numberIn x - 1) noProcess .task)) ≡ refusalIn s (itemOf page x)
       plan-last page q =
-          ap (λ v. lastRefusal v x (isIdle (getD ps (numberIn x - 1) noProcess .task)))
-          (survey-is-bad day ps)
-          ∙ sym (passes page q .0)
+          last-refuses (figure3 ascending) (λ n. refl) s page x item surveyed (surveyed-table s)
+          (ap (firstRefusal day (length ps) surveyed x) q ∙ passed)
 
   -- ---- what an accepted request leaves
 
   module _ (page : List ℕ) (x : Request) (item : T (not (isOpening x))) (accepted : refusalIn s (itemOf page x) ≡ none) where
     pub admits : Accepted (figure3 ascending) s page x
-    admits = accepted-item (figure3 ascending) (λ n. refl) s page x item accepted
+    admits =
+        accepted-item (figure3 ascending) (λ n. refl) s page (λ n e p. busy-owes (mostReads n) e p) x item accepted
 
     pub admits-day : Admits day
     admits-day = record { some = admits .suited .opened; small = admits .suited .small; room = admits .room }
@@ -244,13 +229,13 @@ module _ (day : Day) (ps : List Process) where
         }
 
     pub page-long : day .count ≤ length page
-    page-long = accepted-turn (figure3 ascending) s page x item turns (admits page x item accepted) .0
+    page-long = accepted-turn (figure3 ascending) (λ n. refl) s page x item turns accepted .1
 
     pub page-fits : RoomFor (accessOf day (p .task)) page
     page-fits = subst (λ n. n ≤ length page) (sym (access-count day (p .task))) page-long
 
     busy : isIdle (p .task) ≡ false
-    busy = accepted-turn (figure3 ascending) s page x item turns (admits page x item accepted) .1
+    busy = accepted-turn (figure3 ascending) (λ n. refl) s page x item turns accepted .2
 
     pub write-leaves : (r : Register) (f : Find) → isReady (p .task) ≡ true →
         Leaves (acceptedIn s (itemOf page x)) (acceptedOutcome day (answerBy f (p .task)))

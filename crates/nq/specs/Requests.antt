@@ -3,10 +3,10 @@ use Prim.Native.Nat.{ℕ}
 use mathlib.Core.Bool.{Bool, cond, not}
 use mathlib.Core.List.{List, []}
 use lib.Dec.{eqb}
-use Rattle.snapshot.specs.Refusals.{numberOf}
+use Rattle.snapshot.specs.Refusals.{numberOf, outside}
 use Rattle.snapshot.specs.Replies.{replyOf}
 use Rattle.snapshot.specs.Demand.{Result}
-use Rattle.snapshot.specs.Days.{State, outside}
+use Rattle.snapshot.specs.Days.{State}
 use Rattle.snapshot.specs.declared.Day.{Day}
 use Rattle.snapshot.specs.declared.Refusal.the-variants.{UnknownKind}
 use Rattle.snapshot.specs.declared.Request.{Request}

@@ -7,6 +7,10 @@ pub bool-cases : {C : Type 0} (b : Bool) → (b ≡ true → C) → (b ≡ false
 bool-cases true f g = f refl
 bool-cases false f g = g refl
 
+pub not-not : (b : Bool) → not (not b) ≡ b
+not-not true = refl
+not-not false = refl
+
 pub not-true : (b : Bool) → not b ≡ true → b ≡ false
 not-true true h = absurd (false≢true h)
 not-true false h = refl

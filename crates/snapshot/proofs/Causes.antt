@@ -1,9 +1,8 @@
--- Laws of refusals: none where no cause holds, and never one whose cause does not hold.
+-- Laws of refusals: none where no cause holds, and of causes one after the other.
 use mathlib.Core.Path.{_≡_, refl, ap}
-use mathlib.Core.Logic.{_≢_}
 use mathlib.Core.Bool.{Bool, true, false, cond}
 use mathlib.Core.List.{List, [], _∷_, _++_}
-use mathlib.Core.Option.{none, some, Option·none-ne-some, Option·some-ne-none, Option·some-injective}
+use mathlib.Core.Option.{none, some, Option·none-ne-some, Option·some-ne-none}
 use Rattle.snapshot.specs.declared.Refusal.{Refusal}
 use Rattle.snapshot.specs.Refusals.{Cause, firstCause}
 
@@ -21,18 +20,9 @@ accepted-passes (c ∷ cs) h = go (c .0) refl (accepted-passes cs) h
     go true q r g = absurd (Option·some-ne-none (c .1) g)
     go false q r g = (q, r g)
 
--- no cause that leads to k holds
-abbrev pub Avoids : Refusal → List Cause → Type 0
-Avoids k [] = Unit {0}
-Avoids k (c ∷ cs) = (c .0 ≡ true → c .1 ≢ k) × Avoids k cs
-
-pub refused-avoids : (k : Refusal) (cs : List Cause) → Avoids k cs → firstCause cs ≡ some k → ⊥
-refused-avoids k [] a h = Option·none-ne-some k h
-refused-avoids k (c ∷ cs) a h = go (c .0) refl (refused-avoids k cs (a .1)) h
-  where
-    go : (b : Bool) → c .0 ≡ b → (firstCause cs ≡ some k → ⊥) → cond b (some (c .1)) (firstCause cs) ≡ some k → ⊥
-    go true q r g = a .0 q (Option·some-injective (c .1) k g)
-    go false q r g = r g
+pub passes-front : (cs ds : List Cause) → Passes (cs ++ ds) → Passes cs
+passes-front [] ds w = tt
+passes-front (c ∷ cs) ds w = (w .0, passes-front cs ds (w .1))
 
 -- the first cause holds
 pub refused-first : (c : Cause) (cs : List Cause) → c .0 ≡ true → firstCause (c ∷ cs) ≡ some (c .1)

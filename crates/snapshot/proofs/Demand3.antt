@@ -6,39 +6,33 @@ use native.Mathlib.Omega.{arith}
 use native.Mathlib.Decide.{ℕ-discrete}
 use mathlib.Core.Path.{_≡_, refl, sym, ap, ap₂, _∙_, subst}
 use mathlib.Core.Logic.{_≢_, by-cases}
-use mathlib.Core.Bool.{Bool, true, false, not, _||_, true≢false}
+use mathlib.Core.Bool.{Bool, true, false, cond, not, _||_, true≢false}
 use mathlib.Core.List.{List, [], _∷_, map}
-use mathlib.Core.Option.{Option, none, some, Option·some-ne-none, Option·some-injective}
+use mathlib.Core.Option.{Option, none, some, Option·some-ne-none}
 use lib.ListN.{length, getD, set, take, replicate, length-set, length-map, length-replicate, getD-replicate, List·getD-map}
 use lib.Seq.{getD-set-same, getD-set-other, map-set-same}
 use lib.Dec.{eqb, ltb}
-use borrow.Author.Tests.{eqb-true, ne-eqb, le-ltb}
-use Rattle.snapshot.specs.declared.Refusal.{Refusal}
+use borrow.Author.Tests.{eqb-true, eq-eqb, ne-eqb, le-ltb}
 use Rattle.snapshot.specs.declared.Refusal.the-variants.{CountRange, ProcessRange, Busy, Idle, DayFull, LentSize}
-use Rattle.snapshot.specs.declared.Refusal.the-variants.{OpenState, CannotArise}
+use Rattle.snapshot.specs.declared.Refusal.the-variants.{OpenState}
 use Rattle.snapshot.specs.declared.Answer.{Answer}
 use Rattle.snapshot.specs.declared.Answer.the-variants.{Called}
-use Rattle.snapshot.specs.Lists.{someOf}
-use Rattle.snapshot.specs.Refusals.{numberOf, Cause, firstCause}
-use Rattle.snapshot.specs.Tally.{Job, scan, update, Seen, call, turn, Call, started, opens, gains}
-use Rattle.snapshot.specs.Demand.{Result, Among, RefusalFits, Holds, admit, step}
+use Rattle.snapshot.specs.Refusals.{Cause, firstCause, outside, isPast, isFull}
+use Rattle.snapshot.specs.Tally.{Job, scan, update, Seen, call, turn, Call, Tally, callOf, started, opens, gains}
+use Rattle.snapshot.specs.Tally.{isOpen, callOwes, tallyOwes}
+use Rattle.snapshot.specs.Demand.{Result, Among, Endable, expectedCauses, expected, Holds, admit, step}
 use Rattle.snapshot.specs.Days.{Machine, State, Item, openFor, updateCall, scanCall, turnOf, sees}
-use Rattle.snapshot.specs.Days.{outside, cannotArise, processOf, openingCauses, causes, callCauses, turnCauses, refusal}
+use Rattle.snapshot.specs.Days.{cannotArise, processOf, processOwes, tableOwes, someUnsound, openingCauses, causes, callCauses, turnCauses}
+use Rattle.snapshot.specs.Days.{lastOfCall, lastOfTurn, refusal}
 use Rattle.snapshot.specs.Days.{openedBy, advance, calledBy, readFrom, turnBy, accept, method, openedFor}
-use Rattle.snapshot.proofs.Booleans.{not-false}
-use Rattle.snapshot.proofs.Admitted.{outside-among, Admitted, admitted-call, admitted-turn}
-use Rattle.snapshot.proofs.Causes.{accepted-passes, Avoids, refused-avoids, refused-first}
-use Rattle.snapshot.proofs.Lists.{some-of-none, map-set, map-replicate, map-constant, list-is-each, each-cong}
+use Rattle.snapshot.proofs.Booleans.{bool-cases, not-not, not-false}
+use Rattle.snapshot.proofs.Admitted.{outside-among, Suited, AdmittedCall, AdmittedTurn, admitted-call, admitted-turn}
+use Rattle.snapshot.proofs.Causes.{accepted-passes, refused-first}
+use Rattle.snapshot.proofs.Lists.{some-of-none, sum-same, map-set, map-replicate, map-constant, list-is-each, each-cong}
 use Rattle.snapshot.proofs.Owed.{Owed, Deed, call-deed, read-deed, page-deed, write-deed, actor}
 use Rattle.snapshot.proofs.Fold.{holds}
 use Rattle.snapshot.proofs.Works.{Owns, processAt, pageAt, turnAt, Event, Works}
 use Rattle.snapshot.proofs.Works.{TurnDeed, turn-reads, turn-pages, turn-writes}
-
--- ---- tests
-
--- refusals with different numbers are different
-apart : (a b : Refusal) → numberOf a ≢ numberOf b → a ≢ b
-apart a b h q = h (ap numberOf q)
 
 module _ (M : Machine) (n : ℕ) (W : (H : ℕ → State (M .Process)) → Works M n H) (z : 0 < n) (eight : n ≤ 8) where
   -- ---- what holds of the past
@@ -47,7 +41,6 @@ module _ (M : Machine) (n : ℕ) (W : (H : ℕ → State (M .Process)) → Works
     count : H e .day .count ≡ n
     sizes : (t : ℕ) → t ≤ e → length (H t .table) ≡ n
     laws : W H .Laws e
-    limit : e ≤ 65535
 
   abbrev tied : (ℕ → State (M .Process)) → ℕ → ℕ → Option Call → Type 0
   tied H e i c = W H .Tie e i (processAt M H i e) c
@@ -63,70 +56,92 @@ module _ (M : Machine) (n : ℕ) (W : (H : ℕ → State (M .Process)) → Works
       ∙ each-cong n (λ j. getD (words (H t)) j blank) (λ j. M .value (processAt M H j t))
       (λ j l. List·getD-map (M .value) (H t .table) j (M .noProcess))
 
-  module _ (H : ℕ → State (M .Process)) (e : ℕ) (open-call : ℕ → Option Call) (A : Past H e) (number : H e .day .event ≡ e)
-      (T : (i : ℕ) → i < n → tied H e i (open-call i)) where
-    -- ---- refusals
+  -- a day that is open refuses a further opening with 10
+  open-refused : (s : State (M .Process)) → s .day .count ≡ n → (k : ℕ) → firstCause (openingCauses M s k) ≡ some OpenState
+  open-refused s c k =
+      refused-first (not (eqb (s .day .count) 0), OpenState)
+      ((outside 1 8 k, CountRange) ∷ (not (eqb (length (s .table)) k), LentSize) ∷ [])
+      (ap not (ne-eqb (s .day .count) 0 (λ q. omega arith)))
 
-    can-arise : cannotArise (H e .day) (someOf (M .unsound (H e .day .count) (H e .day .event)) (H e .table)) ≡ false
+  -- ---- refusals: those that the tally expects
+
+  module _ (H : ℕ → State (M .Process)) (t : Tally (M .Value)) (A : Past H (t .event)) (number : H (t .event) .day .event ≡ t .event)
+      (T : (i : ℕ) → i < n → tied H (t .event) i (getD (t .calls) i none)) (size : length (t .calls) ≡ n)
+      (endable : Endable (M .most n) t) where
+    abbrev e : ℕ
+    e = t .event
+
+    abbrev s : State (M .Process)
+    s = H e
+
+    owes-same : tableOwes M s ≡ tallyOwes (M .most n) t
+    owes-same =
+        let l = A .sizes e (omega arith) in
+        sum-same (processOwes M (s .day .count)) (callOwes (M .most n)) (s .table) (t .calls) (M .noProcess) none (l ∙ sym size)
+        (λ i b.
+        let p = processAt M H i e in
+        ap (λ k. processOwes M k p) (A .count) ∙ W H .owing e i p (getD (t .calls) i none) (T i (omega arith)))
+
+    can-arise : cannotArise (s .day .count) (s .day .event + tableOwes M s) (someUnsound M s) ≡ false
+    unfolding isPast
     can-arise =
         let c = A .count in
-        let l = A .limit in
-        let s = A .sizes e (omega arith) in
-        ap₂ _||_ (le-ltb 8 (H e .day .count) (omega arith))
-        (ap₂ _||_ (le-ltb 65535 (H e .day .event) (omega arith))
-        (some-of-none (M .unsound (H e .day .count) (H e .day .event)) (H e .table) (M .noProcess)
+        let l = A .sizes e (omega arith) in
+        ap₂ _||_ (le-ltb 8 (s .day .count) (omega arith))
+        (ap₂ _||_ (le-ltb 65535 (s .day .event + tableOwes M s) (omega (arith, owes-same)))
+        (some-of-none (M .unsound (s .day .count) (s .day .event)) (s .table) (M .noProcess)
         (λ i b.
-        ap₂ (λ k t. M .unsound k t (processAt M H i e)) c number
-        ∙ W H .sound e i (open-call i) (omega arith) (A .laws) (T i (omega arith)))))
+        ap₂ (λ k u. M .unsound k u (processAt M H i e)) c number
+        ∙ W H .sound e i (getD (t .calls) i none) (omega arith) (A .laws) (T i (omega arith)))))
 
-    -- no cause leads to 11, if that of a wrong state does not
-    avoids : (d : ℕ) (short : Bool) (wrong : Cause) → wrong .1 ≢ CannotArise → Avoids CannotArise (causes M (H e) d short wrong)
-    avoids d short wrong h = (
-      (λ q. apart OpenState CannotArise (λ r. omega arith)),
-      (
-        (λ q. apart LentSize CannotArise (λ r. omega arith)),
-        (
-          (λ q r. true≢false (sym q ∙ can-arise)),
-          (
-            (λ q. apart ProcessRange CannotArise (λ r. omega arith)),
-            ((λ q. h), ((λ q. apart DayFull CannotArise (λ r. omega arith)), tt)),
-          ),
-        ),
-      ),
-    )
+    -- of the first causes 6 is left where the page list is short, and 2; what comes last may take the process for one of the day's
+    causes-left : (d : ℕ) (short : Bool) (last left : List Cause) → (Among n d → firstCause last ≡ firstCause left) →
+        firstCause (causes M s d short last) ≡ firstCause ((short, LentSize) ∷ (outside 1 n d, ProcessRange) ∷ left)
+    causes-left d short last left h =
+        let c = A .count in
+        let l = A .sizes e (omega arith) in
+        let is-open = ne-eqb (s .day .count) 0 (λ q. omega arith) in
+        let sized = eq-eqb (length (s .table)) (s .day .count) (omega arith) in
+        let first : firstCause (causes M s d short last) ≡
+        firstCause ((short, LentSize) ∷ (outside 1 (s .day .count) d, ProcessRange) ∷ last) = simp (is-open, sized, can-arise) in
+        first
+        ∙ ap (λ k. firstCause ((short, LentSize) ∷ (outside 1 k d, ProcessRange) ∷ last)) c
+        ∙ ap (λ r. cond short (some LentSize) r)
+        (bool-cases (outside 1 n d) (λ q. rw q) (λ q. ap (λ r. cond (outside 1 n d) (some ProcessRange) r) (h (outside-among n d q))))
 
-    never-11 : (d : ℕ) (short : Bool) (wrong : Cause) → wrong .1 ≢ CannotArise → (k : Refusal) →
-        firstCause (causes M (H e) d short wrong) ≡ some k → k ≢ CannotArise
-    never-11 d short wrong h k q r =
-        refused-avoids CannotArise (causes M (H e) d short wrong) (avoids d short wrong h) (q ∙ ap {B = Option Refusal} some r)
+    idle-is : (d : ℕ) → Among n d → M .isIdle (processOf M s d) ≡ not (isOpen (callOf t d))
+    idle-is d m = W H .idle e (d - 1) (processAt M H (d - 1) e) (callOf t d) (T (d - 1) (omega arith))
 
-    call-refused : (d : ℕ) (k : Refusal) → firstCause (callCauses M (H e) d) ≡ some k → k ≢ CannotArise
-    call-refused d = never-11 d false (not (M .isIdle (processOf M (H e) d)), Busy) (apart Busy CannotArise (λ r. omega arith))
+    full-is : (j : Job) → isFull (s .day .event) (tableOwes M s) (M .most (s .day .count) j) ≡ isFull e (tallyOwes (M .most n) t) (M .most n j)
+    full-is j i = isFull (number i) (owes-same i) (M .most (A .count i) j)
 
-    -- a day that is open refuses a further opening with 10
-    open-refused : (k : ℕ) → firstCause (openingCauses M (H e) k) ≡ some OpenState
-    open-refused k =
-        refused-first (not (eqb (H e .day .count) 0), OpenState)
-        ((outside 1 8 k, CountRange) ∷ (not (eqb (length (H e .table)) k), LentSize) ∷ [])
-        (ap not (ne-eqb (H e .day .count) 0 (λ q. let c = A .count in omega arith)))
+    call-refused : (d : ℕ) (j : Job) → firstCause (callCauses M s d j) ≡ firstCause (expectedCauses (method M n) t (call d j) [])
+    call-refused d j =
+        causes-left d false (lastOfCall M s d j)
+        ((isOpen (callOf t d), Busy) ∷ (isFull e (tallyOwes (M .most n) t) (M .most n j), DayFull) ∷ []) (λ m.
+        ap₂ (λ b f. firstCause ((not b, Busy) ∷ (f, DayFull) ∷ [])) (idle-is d m) (full-is j)
+        ∙ ap (λ b. firstCause ((b, Busy) ∷ (isFull e (tallyOwes (M .most n) t) (M .most n j), DayFull) ∷ []))
+        (not-not (isOpen (callOf t d))))
 
-    refused-fits : (x : Item) (k : Refusal) → refusal M (H e) x ≡ some k → RefusalFits k (sees x)
+    turn-refused : (d : ℕ) (page : List ℕ) → firstCause (turnCauses M s d page) ≡ firstCause (expectedCauses (method M n) t (turn d) page)
+    turn-refused d page =
+        causes-left d (ltb (length page) (M .pageLength (s .day .count))) (lastOfTurn M s d) ((not (isOpen (callOf t d)), Idle) ∷ []) (λ m. ap (λ b. firstCause ((b, Idle) ∷ [])) (idle-is d m))
+        ∙ ap (λ k. firstCause ((ltb (length page) (M .pageLength k), LentSize) ∷ (outside 1 n d, ProcessRange) ∷ (not (isOpen (callOf t d)), Idle) ∷ []))
+        (A .count)
+
+    refused-by-tally : (x : Item) → refusal M s x ≡ expected (method M n) t x
     unfolding refusal
-    refused-fits (openFor c) k q = Option·some-injective k OpenState (sym q ∙ open-refused c)
-    refused-fits (updateCall d w) k q = call-refused d k q
-    refused-fits (scanCall d) k q = call-refused d k q
-    refused-fits (turnOf d page) k q =
-        never-11 d (ltb (length page) (M .pageLength (H e .day .count))) (M .isIdle (processOf M (H e) d), Idle)
-        (apart Idle CannotArise (λ r. omega arith)) k q
+    refused-by-tally (openFor k) = open-refused s (A .count) k
+    refused-by-tally (updateCall d w) = call-refused d (update d w)
+    refused-by-tally (scanCall d) = call-refused d scan
+    refused-by-tally (turnOf d page) = turn-refused d page
 
-    -- ---- accepted items
+  -- ---- accepted items
 
-    -- what acceptance tells of a call or a turn
-    among : {d : ℕ} {short : Bool} {wrong : Cause} → Admitted M (H e) d short wrong → Among n d
-    among {d} ok = subst (λ k. Among k d) (A .count) (ok .suited .among)
-
-    not-full : {d : ℕ} {short : Bool} {wrong : Cause} → Admitted M (H e) d short wrong → e < 65535
-    not-full ok = subst (λ k. k < 65535) number (ok .room)
+  module _ (H : ℕ → State (M .Process)) (e : ℕ) (open-call : ℕ → Option Call) (A : Past H e) (number : H e .day .event ≡ e)
+      (T : (i : ℕ) → i < n → tied H e i (open-call i)) where
+    among : {d : ℕ} {short : Bool} → Suited M (H e) d short → Among n d
+    among {d} ok = subst (λ k. Among k d) (A .count) (ok .among)
 
     -- event e + 1 leaves process d the record p
     module _ (d : ℕ) (p : M .Process) (m : Among n d) (next : H (suc e) ≡ advance M (H e) d p) where
@@ -146,9 +161,9 @@ module _ (M : Machine) (n : ℕ) (W : (H : ℕ → State (M .Process)) → Works
       unfolding advance
       next-event = ap (λ s. s .day .event) next ∙ ap (λ k. k + 1) number ∙ add-one e
 
-      next-past : e < 65535 → W H .Laws (suc e) → Past H (suc e)
+      next-past : W H .Laws (suc e) → Past H (suc e)
       unfolding advance
-      next-past l w =
+      next-past w =
           record {
             count = ap (λ s. s .day .count) next ∙ A .count;
             sizes = λ t l. by-cases (ℕ-discrete t (suc e))
@@ -157,7 +172,6 @@ module _ (M : Machine) (n : ℕ) (W : (H : ℕ → State (M .Process)) → Works
                 ∙ A .sizes e (omega arith))
                 (λ x. A .sizes t (omega arith));
             laws = w;
-            limit = l;
           }
 
       words-stay : M .value p ≡ M .value (processAt M H (d - 1) e) → words (H (suc e)) ≡ words (H e)
@@ -203,25 +217,25 @@ module _ (M : Machine) (n : ℕ) (W : (H : ℕ → State (M .Process)) → Works
     abbrev leaves : ℕ → M .Process → Answer → List ℕ → Result (State (M .Process))
     leaves d p a page = record { state = advance M (H e) d p; answer = a; page = page }
 
-    call-acts : (d : ℕ) (j : Job) → Owns (d - 1) j → firstCause (callCauses M (H e) d) ≡ none →
+    call-acts : (d : ℕ) (j : Job) → Owns (d - 1) j → firstCause (callCauses M (H e) d j) ≡ none →
         Acts (call d j) (record { state = calledBy M (H e) d j; answer = Called; page = [] })
     unfolding calledBy
     call-acts d j o q =
         let p = processAt M H (d - 1) e in
-        let ok = admitted-call M (H e) d q in
+        let ok = admitted-call M (H e) d j q in
         subst (λ k. Acts (call d j) (leaves d (M .called k j p) Called [])) (sym (A .count))
-        (go ok (open-call (d - 1)) refl (T (d - 1) (let a = among ok in omega arith)))
+        (go ok (open-call (d - 1)) refl (T (d - 1) (let a = among (ok .suited) in omega arith)))
       where
-        go : Admitted M (H e) d false (not (M .isIdle (processAt M H (d - 1) e)), Busy) → (b : Option Call) → open-call (d - 1) ≡ b →
+        go : AdmittedCall M (H e) d j → (b : Option Call) → open-call (d - 1) ≡ b →
             tied H e (d - 1) b → Acts (call d j) (leaves d (M .called n j (processAt M H (d - 1) e)) Called [])
         go ok (some c) is t next =
             let p = processAt M H (d - 1) e in
-            absurd (true≢false (sym (not-false (M .isIdle p) (ok .right)) ∙ W H .idle e (d - 1) p (some c) t))
+            absurd (true≢false (sym (ok .idle) ∙ W H .idle e (d - 1) p (some c) t))
         go ok none is t next =
             let p = M .called n j (processAt M H (d - 1) e) in
-            let m = among ok in
+            let m = among (ok .suited) in
             let w = W H .calls e (d - 1) j o (A .laws) t (event d p m next) in (
-              next-past d p m next (not-full ok) (w .0),
+              next-past d p m next (w .0),
               next-event d p m next,
               others-tied d p m next,
               call-deed d j m is (words-stay d p m next (w .1)) (own-tied d p m next (some (opens (suc e) j)) (w .2)),
@@ -239,18 +253,18 @@ module _ (M : Machine) (n : ℕ) (W : (H : ℕ → State (M .Process)) → Works
         Acts (turn d) (leaves d (r .state) (r .answer) (r .page))
     turn-acts d page q =
         let ok = admitted-turn M (H e) d page q in
-        go ok (open-call (d - 1)) refl (T (d - 1) (let a = among ok in omega arith))
+        go ok (open-call (d - 1)) refl (T (d - 1) (let a = among (ok .suited) in omega arith))
       where
         r : Result (M .Process)
         r = turnAt M n H (d - 1) e page
 
-        go : Admitted M (H e) d (ltb (length page) (M .pageLength (H e .day .count))) (M .isIdle (processAt M H (d - 1) e), Idle) →
+        go : AdmittedTurn M (H e) d page →
             (b : Option Call) → open-call (d - 1) ≡ b → tied H e (d - 1) b → Acts (turn d) (leaves d (r .state) (r .answer) (r .page))
-        go ok none is t next = absurd (true≢false (sym (W H .idle e (d - 1) (processAt M H (d - 1) e) none t) ∙ ok .right))
+        go ok none is t next = absurd (true≢false (sym (W H .idle e (d - 1) (processAt M H (d - 1) e) none t) ∙ ok .busy))
         go ok (some c) is t next =
-            let m = among ok in
+            let m = among (ok .suited) in
             let w = W H .turns e (d - 1) page c (A .laws) t (event d (r .state) m next) in (
-              next-past d (r .state) m next (not-full ok) (w .0),
+              next-past d (r .state) m next (w .0),
               next-event d (r .state) m next,
               others-tied d (r .state) m next,
               turn-deed d (r .state) m next c (r .page) is (w .1),
@@ -258,7 +272,7 @@ module _ (M : Machine) (n : ℕ) (W : (H : ℕ → State (M .Process)) → Works
 
     item-acts : (x : Item) → refusal M (H e) x ≡ none → Acts (sees x) (accept M (H e) x)
     unfolding refusal accept
-    item-acts (openFor c) q = absurd (Option·some-ne-none OpenState (sym (open-refused c) ∙ q))
+    item-acts (openFor c) q = absurd (Option·some-ne-none OpenState (sym (open-refused (H e) (A .count) c) ∙ q))
     item-acts (updateCall d w) q = call-acts d (update d w) refl q
     item-acts (scanCall d) q = call-acts d scan tt q
     item-acts (turnOf d page) q =
@@ -273,7 +287,7 @@ module _ (M : Machine) (n : ℕ) (W : (H : ℕ → State (M .Process)) → Works
         Past = Past;
         Tied = tied;
         patient = λ H e i c b A t. W H .patient e i c b (A .laws) t;
-        refuses = λ H e x k open-call A number T q. refused-fits H e open-call A number T x k q;
+        refuses = λ H t x A number T size endable. refused-by-tally H t A number T size endable x;
         acts = λ H e x open-call A number T q next. item-acts H e open-call A number T x q next;
       }
 
@@ -290,7 +304,6 @@ module _ (M : Machine) (n : ℕ) (W : (H : ℕ → State (M .Process)) → Works
           sizes = λ t l. ap (λ k. length (H k .table)) (omega arith) ∙ ap (λ s. length (s .table)) first
               ∙ length-replicate n (M .zeroProcess);
           laws = W H .laws-start first-process;
-          limit = omega arith;
         }
 
     first-tied : (i : ℕ) → i < n → tied H 0 i none

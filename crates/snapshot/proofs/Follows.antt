@@ -39,6 +39,6 @@ module _ (M : Method) where
   holds-follows s t [] h = tt
   holds-follows s t (x ∷ xs) h =
       let r = step M s x in (
-        fits-tells t (M .sees x) (M .shown (r .page)) (r .answer) (h .0),
-        holds-follows (r .state) (tallied (M .stored) t (M .sees x) (r .answer)) xs (h .2),
+        fits-tells t (M .sees x) (M .shown (r .page)) (r .answer) (h .1),
+        holds-follows (r .state) (tallied (M .stored) t (M .sees x) (r .answer)) xs (h .4),
       )

@@ -3,15 +3,19 @@
 use Prim.Native.Nat.{ℕ, zero, suc, _<_}
 use native.Mathlib.Omega.{arith}
 use mathlib.Core.Path.{_≡_, refl, ap, subst}
-use mathlib.Core.List.{List, [], _∷_, _++_}
+use mathlib.Core.Logic.{inl, inr}
+use mathlib.Core.Bool.{true, false, false≢true}
+use mathlib.Core.List.{List, [], _∷_, _++_, map}
 use mathlib.Core.Option.{Option, none, some, Option·none-ne-some, Option·some-ne-none}
 use lib.ListN.{getD, replicate}
 use Rattle.snapshot.specs.declared.Answer.{Answer}
 use Rattle.snapshot.specs.declared.Answer.the-variants.{Refused, Opened, Called, Read, Page, Written}
-use Rattle.snapshot.specs.declared.Refusal.the-variants.{CountRange, CannotArise}
-use Rattle.snapshot.specs.Refusals.{numberOf}
-use Rattle.snapshot.specs.Tally.{Job, scan, update, Seen, opening, call, turn, Call, Tally, started, instant, tallied}
-use Rattle.snapshot.specs.Demand.{Method, step, IsUpdate, Holds}
+use Rattle.snapshot.specs.declared.Refusal.{Refusal}
+use Rattle.snapshot.specs.declared.Refusal.the-variants.{CountRange, ProcessRange, Busy, Idle, DayFull, LentSize, CannotArise}
+use Rattle.snapshot.specs.Refusals.{numberOf, isPast}
+use Rattle.snapshot.specs.Tally.{Job, scan, update, Seen, opening, call, turn, bySeen, Call, Tally, started, instant, gains, tallied}
+use Rattle.snapshot.specs.Demand.{Method, step, IsUpdate, refusalOf, Holds}
+use Rattle.snapshot.specs.Closing.{tallyAfter, isTurnOf, Ends, Closable, TurnsTaken, NobodyWaits, AllEnds}
 
 -- ---- histories
 
@@ -31,15 +35,15 @@ abbrev most : Job → ℕ
 most scan = 2
 most (update register w) = 3
 
--- the method of two processes that answers what the history tells
-abbrev told : Method
-told =
+-- a method of two processes whose items are seen and answered so; and the one that answers what the history tells
+abbrev telling : (Told → Seen) → (Told → Answer) → Method
+telling seen answer =
     record {
       State = Left;
       Item = Told;
       refusal = λ s x. none;
-      accept = λ s x. record { state = s; answer = x .answer; page = x .page };
-      sees = λ x. x .seen;
+      accept = λ s x. record { state = s; answer = answer x; page = x .page };
+      sees = seen;
       pageLent = λ x. x .page;
       Value = ℕ;
       stored = λ e w. w;
@@ -47,17 +51,21 @@ told =
       event = λ s. s .event;
       words = λ s. s .words;
       processes = 2;
+      pageLength = 2;
       most = most;
     }
+
+abbrev told : Method
+told = telling (λ x. x .seen) (λ x. x .answer)
 
 -- the tally after a history
 abbrev tallies : Tally ℕ → List Told → Tally ℕ
 tallies t [] = t
 tallies t (x ∷ xs) = tallies (tallied (λ e w. w) t (x .seen) (x .answer)) xs
 
--- an item whose page list is empty
+-- an item whose page list has two zeros
 abbrev says : Seen → Answer → Told
-says x a = record { seen = x; answer = a; page = [] }
+says x a = record { seen = x; answer = a; page = 0 ∷ 0 ∷ [] }
 
 abbrev callBy : ℕ → Job → Told
 callBy d j = says (call d j) Called
@@ -100,6 +108,11 @@ five-tallied = refl
 abbrev Passes : (ys : List Told) → Left → (xs : List Told) → Type 0
 Passes ys s xs = Holds told s (tallies (started 2 2 0) ys) xs
 
+-- the number of a refusal, 0 for none
+abbrev numberIf : Option Refusal → ℕ
+numberIf none = 0
+numberIf (some k) = numberOf k
+
 -- ---- what passes
 
 -- an open call, if any, that has not had its most turns
@@ -120,122 +133,261 @@ page-in-time = (in-time refl (omega arith) (omega arith), in-time refl (omega ar
   where
     in-time : {at : ℕ} → (7 ∷ 0 ∷ []) ≡ instant talliedFive at → 3 < at → at < 6 →
         Passes five (ends 6) (pageBy 2 at 2 (7 ∷ 0 ∷ []) ∷ [])
-    in-time q l m =
-        (((omega arith, omega arith), (refl, (refl, omega arith), q, l, m)), two-patient none none tt tt, (refl, refl))
+    in-time q l m = (
+      refl,
+      ((omega arith, omega arith), (refl, (refl, omega arith), q, l, m)),
+      two-patient none none tt tt,
+      omega arith,
+      (refl, refl),
+    )
 
 -- an update with as many turns as it may take
 pub written-in-time : Passes (reading 2) (ends 4) (writeBy 1 3 ∷ [])
 unfolding step
-written-in-time = (((omega arith, omega arith), (tt, (refl, omega arith))), two-patient none none tt tt, (refl, refl))
+written-in-time =
+    (refl, ((omega arith, omega arith), (tt, (refl, omega arith))), two-patient none none tt tt, omega arith, (refl, refl))
 
 -- ---- a page's instant and its words
 
 -- "later than its call": event 3 is the call
 pub page-at-its-call : ¬ Passes five (ends 6) (pageBy 2 3 2 (0 ∷ 0 ∷ []) ∷ [])
 unfolding step
-page-at-its-call h = omega (arith, h .0 .1 .3)
+page-at-its-call h = omega (arith, h .1 .1 .3)
 
 -- "earlier than its answer": event 6 is the answer
 pub page-at-its-answer : (ws : List ℕ) → ¬ Passes five (ends 6) (pageBy 2 6 2 ws ∷ [])
 unfolding step
-page-at-its-answer ws h = omega (arith, h .0 .1 .4)
+page-at-its-answer ws h = omega (arith, h .1 .1 .4)
 
 -- "exactly the n words that stood in the rows together at the page's stated instant": zeros stood until event 4
 pub page-of-an-older-instant : ¬ Passes five (ends 6) (pageBy 2 4 2 (0 ∷ 0 ∷ []) ∷ [])
 unfolding step
-page-of-an-older-instant h = omega (arith, ap (λ ws. getD ws 0 0) (h .0 .1 .2))
+page-of-an-older-instant h = omega (arith, ap (λ ws. getD ws 0 0) (h .1 .1 .2))
 
 -- ---- turns
 
 -- "The turns in an answer are the tally's"
 pub page-of-other-turns : ¬ Passes five (ends 6) (pageBy 2 4 1 (7 ∷ 0 ∷ []) ∷ [])
 unfolding step
-page-of-other-turns h = omega (arith, h .0 .1 .1 .0)
+page-of-other-turns h = omega (arith, h .1 .1 .1 .0)
 
 -- one turn too many in an answer
 pub page-too-late : ¬ Passes five (ends 7) (readBy 2 ∷ pageBy 2 4 3 (7 ∷ 0 ∷ []) ∷ [])
 unfolding step
-page-too-late h = omega (arith, h .2 .0 .1 .1 .1)
+page-too-late h = omega (arith, h .4 .1 .1 .1 .1)
 
 pub written-too-late : ¬ Passes (reading 3) (ends 5) (writeBy 1 4 ∷ [])
 unfolding step
-written-too-late h = omega (arith, h .0 .1 .1 .1)
+written-too-late h = omega (arith, h .1 .1 .1 .1)
 
 -- "at no point of the list does a desk still wait that has had" the most turns
 pub scan-still-waits : ¬ Passes five (ends 6) (readBy 2 ∷ [])
 unfolding step
-scan-still-waits h = omega (arith, h .1 1 (record { job = scan; number = 3; turns = 2 }) refl)
+scan-still-waits h = omega (arith, h .2 1 (record { job = scan; number = 3; turns = 2 }) refl)
 
 pub update-still-waits : ¬ Passes (reading 2) (ends 4) (readBy 1 ∷ [])
 unfolding step
-update-still-waits h = omega (arith, h .1 0 (record { job = update 1 7; number = 1; turns = 3 }) refl)
+update-still-waits h = omega (arith, h .2 0 (record { job = update 1 7; number = 1; turns = 3 }) refl)
 
 -- ---- calls, kinds and refusals
 
 -- "An accepted call finds no open call of its desk, an accepted turn finds one, and an answer finds one of its own kind"
 pub second-call : ¬ Passes five (ends 6) (callBy 2 scan ∷ [])
 unfolding step
-second-call h = Option·some-ne-none (record { job = scan; number = 3; turns = 1 }) (h .0 .1)
+second-call h = Option·some-ne-none (record { job = scan; number = 3; turns = 1 }) (h .1 .1)
 
 pub turn-without-a-call : ¬ Passes five (ends 6) (readBy 1 ∷ [])
 unfolding step
-turn-without-a-call h = h .0 .1
+turn-without-a-call h = h .1 .1
 
 pub page-without-a-call : ¬ Passes five (ends 6) (pageBy 1 4 1 (7 ∷ 0 ∷ []) ∷ [])
 unfolding step
-page-without-a-call h = h .0 .1
+page-without-a-call h = h .1 .1
 
 pub written-without-a-call : ¬ Passes five (ends 6) (writeBy 1 1 ∷ [])
 unfolding step
-written-without-a-call h = h .0 .1
+written-without-a-call h = h .1 .1
 
 pub page-of-an-update : ¬ Passes (reading 1) (ends 3) (pageBy 1 2 2 (0 ∷ 0 ∷ []) ∷ [])
 unfolding step
-page-of-an-update h = subst IsUpdate (h .0 .1 .0) tt
+page-of-an-update h = subst IsUpdate (h .1 .1 .0) tt
 
 pub written-of-a-scan : ¬ Passes five (ends 6) (writeBy 2 2 ∷ [])
 unfolding step
-written-of-a-scan h = h .0 .1 .0
+written-of-a-scan h = h .1 .1 .0
 
 -- processes are 1 to n
 pub call-of-process-0 : ¬ Passes five (ends 6) (callBy 0 scan ∷ [])
 unfolding step
-call-of-process-0 h = omega (arith, h .0 .0 .0)
+call-of-process-0 h = omega (arith, h .1 .0 .0)
 
 pub call-of-process-3 : ¬ Passes five (ends 6) (callBy 3 scan ∷ [])
 unfolding step
-call-of-process-3 h = omega (arith, h .0 .0 .1)
+call-of-process-3 h = omega (arith, h .1 .0 .1)
 
 pub turn-of-process-0 : ¬ Passes (reading 0) (ends 2) (readBy 0 ∷ [])
 unfolding step
-turn-of-process-0 h = omega (arith, h .0 .0 .0)
+turn-of-process-0 h = omega (arith, h .1 .0 .0)
 
 -- an answer that does not belong to its item
 pub call-answered-as-a-turn : ¬ Passes five (ends 6) (says (call 1 scan) Read ∷ [])
 unfolding step
-call-answered-as-a-turn h = h .0
+call-answered-as-a-turn h = h .1
 
 pub turn-answered-as-a-call : ¬ Passes five (ends 6) (says (turn 2) Called ∷ [])
 unfolding step
-turn-answered-as-a-call h = h .0
+turn-answered-as-a-call h = h .1
+
+-- ---- refusals: each is the one that the tally expects
 
 -- "a further opening gets 10"
 pub opened-again : ¬ Passes five (ends 5) (says opening Opened ∷ [])
 unfolding step
-opened-again h = h .0
+opened-again h = h .1
 
 pub further-opening : ¬ Passes five (ends 5) (says opening (Refused CountRange) ∷ [])
 unfolding step
-further-opening h = omega (arith, ap numberOf (h .0))
+further-opening h = omega (arith, ap numberIf (h .0))
 
 -- a day grown from an opening never gets 11
 pub call-gets-11 : ¬ Passes five (ends 5) (says (call 1 scan) (Refused CannotArise) ∷ [])
-unfolding step
-call-gets-11 h = h .0 refl
+unfolding step isPast
+call-gets-11 h = Option·some-ne-none CannotArise (h .0)
 
 pub turn-gets-11 : ¬ Passes five (ends 5) (says (turn 2) (Refused CannotArise) ∷ [])
 unfolding step
-turn-gets-11 h = h .0 refl
+turn-gets-11 h = Option·some-ne-none CannotArise (h .0)
+
+-- nothing is refused without its cause, nor for another
+pub idle-process-is-busy : ¬ Passes five (ends 5) (says (call 1 scan) (Refused Busy) ∷ [])
+unfolding step isPast
+idle-process-is-busy h = Option·some-ne-none Busy (h .0)
+
+pub waiting-process-is-idle : ¬ Passes five (ends 5) (says (turn 2) (Refused Idle) ∷ [])
+unfolding step
+waiting-process-is-idle h = Option·some-ne-none Idle (h .0)
+
+pub second-call-gets-2 : ¬ Passes five (ends 5) (says (call 2 scan) (Refused ProcessRange) ∷ [])
+unfolding step
+second-call-gets-2 h = omega (arith, ap numberIf (h .0))
+
+-- 6: a page list of two words is long enough, one of a word is not
+pub turn-gets-6 : ¬ Passes five (ends 5) (says (turn 2) (Refused LentSize) ∷ [])
+unfolding step
+turn-gets-6 h = Option·some-ne-none LentSize (h .0)
+
+pub short-list-taken : ¬ Passes five (ends 6) (record { seen = turn 2; answer = Read; page = 0 ∷ [] } ∷ [])
+unfolding step
+short-list-taken h = Option·none-ne-some LentSize (h .0)
+
+-- ---- the end of the day
+
+-- the tally at event e, where process 2 has this open call
+abbrev late : ℕ → Option Call → Tally ℕ
+late e c = record { event = e; words = 7 ∷ 0 ∷ []; instants = []; calls = none ∷ c ∷ [] }
+
+-- a scan that has had one turn, and owes one
+abbrev halfRead : Call
+halfRead = record { job = scan; number = 3; turns = 1 }
+
+-- a scan of process 1 by event 65,533 leaves two events for its two turns; with the turn that process 2 owes, one by 65,532 does
+pub last-call-taken : Holds told (ends 65533) (late 65532 none) (callBy 1 scan ∷ [])
+    × Holds told (ends 65532) (late 65531 (some halfRead)) (callBy 1 scan ∷ [])
+unfolding step isPast
+last-call-taken = (
+  (refl, ((omega arith, omega arith), refl), two-patient _ none (omega arith) tt, omega arith, (refl, refl)),
+  (refl, ((omega arith, omega arith), refl), two-patient _ (some halfRead) (omega arith) (omega arith), omega arith, (refl, refl)),
+)
+
+-- "crying 'day full' early"
+pub last-call-refused : ¬ Holds told (ends 65532) (late 65532 none) (says (call 1 scan) (Refused DayFull) ∷ [])
+unfolding step isPast
+last-call-refused h = Option·some-ne-none DayFull (h .0)
+
+-- one event later, for an update one turn more, and by another's turn that is owed
+pub late-scan-taken : ¬ Holds told (ends 65534) (late 65533 none) (callBy 1 scan ∷ [])
+unfolding step isPast
+late-scan-taken h = Option·none-ne-some DayFull (h .0)
+
+pub late-update-taken : ¬ Holds told (ends 65533) (late 65532 none) (callBy 1 (update 1 7) ∷ [])
+unfolding step isPast
+late-update-taken h = Option·none-ne-some DayFull (h .0)
+
+pub others-not-counted : ¬ Holds told (ends 65533) (late 65532 (some halfRead)) (callBy 1 scan ∷ [])
+unfolding step isPast
+others-not-counted h = Option·none-ne-some DayFull (h .0)
+
+-- "a turn never meets it now"
+pub turn-gets-5 : ¬ Holds told (ends 65534) (late 65534 (some halfRead)) (says (turn 2) (Refused DayFull) ∷ [])
+unfolding step
+turn-gets-5 h = Option·some-ne-none DayFull (h .0)
+
+-- "at every point of every list, the event number and all that is owed are at most 65,535": a read that leaves event 65,534 and two
+-- turns owed
+pub too-much-owed : ¬ Holds told (ends 65534) (late 65533 (some (record { job = update 2 9; number = 3; turns = 0 }))) (readBy 2 ∷ [])
+unfolding step
+too-much-owed h = omega (arith, h .3)
+
+-- ---- the closing rule
+
+pub five-tallied-after : tallyAfter told (ends 5) (started 2 2 0) five ≡ talliedFive
+unfolding step
+five-tallied-after = refl
+
+-- a turn of the process itself, with a page list long enough
+pub own-turns : map (isTurnOf told 2)
+    (readBy 2 ∷ record { seen = turn 2; answer = Read; page = 0 ∷ [] } ∷ readBy 1 ∷ callBy 2 scan ∷ says opening Opened ∷ [])
+    ≡ true ∷ false ∷ false ∷ false ∷ false ∷ []
+own-turns = refl
+
+-- among other items, refused or answered, each of its turns reads until one is answered
+pub ends-among-others : Ends told 2 (ends 5)
+    (says (call 2 scan) (Refused Busy) ∷ writeBy 1 1 ∷ readBy 2 ∷ pageBy 2 5 2 (7 ∷ 0 ∷ []) ∷ [])
+unfolding step
+ends-among-others =
+    inr ((λ q. absurd (false≢true q)), inr ((λ q. absurd (false≢true q)), inr ((λ q. refl), inl (refl, tt))))
+
+pub never-answered : ¬ Ends told 2 (ends 5) (readBy 2 ∷ [])
+unfolding step
+never-answered (inl h) = h .1
+never-answered (inr h) = h .1
+
+pub another-answered : ¬ Ends told 2 (ends 5) (writeBy 1 1 ∷ [])
+unfolding step
+another-answered (inl h) = false≢true (h .0)
+another-answered (inr h) = h .1
+
+pub refused-before : ¬ Ends told 2 (ends 5) (says (turn 2) (Refused DayFull) ∷ pageBy 2 5 2 (7 ∷ 0 ∷ []) ∷ [])
+unfolding step
+refused-before (inl h) = h .1
+refused-before (inr h) = Option·some-ne-none DayFull (ap refusalOf (h .0 refl))
+
+-- after the five process 2 owes one turn, and that turn reads
+pub not-closable : ¬ Closable told (ends 5) (started 2 2 0)
+unfolding step
+not-closable h = never-answered (h five 2 halfRead (omega arith, omega arith) refl (readBy 2 ∷ []) (omega arith))
+
+pub call-is-no-turn : ¬ TurnsTaken told (ends 5) (callBy 1 scan ∷ [])
+call-is-no-turn h = omega (arith, ap {B = ℕ} (bySeen 0 (λ d j. 1) (λ d. 2)) (h .0 .1))
+
+pub refused-not-taken : ¬ TurnsTaken told (ends 5) (says (turn 1) (Refused Idle) ∷ [])
+unfolding step
+refused-not-taken h = Option·some-ne-none Idle (h .1)
+
+-- whatever is asked, process 2 reads, and waits
+abbrev mute : Method
+mute = telling (λ x. turn 2) (λ x. Read)
+
+abbrev waitsAt : ℕ → List (List ℕ) → Call → Tally ℕ
+waitsAt e is c = record { event = e; words = 7 ∷ 0 ∷ []; instants = is; calls = none ∷ some c ∷ [] }
+
+still-waits : (ys : List Told) (e : ℕ) (is : List (List ℕ)) (c : Call) → ¬ NobodyWaits mute (tallyAfter mute (ends 5) (waitsAt e is c) ys)
+unfolding step
+still-waits [] e is c h = Option·some-ne-none c (h 2 (omega arith, omega arith))
+still-waits (y ∷ ys) e is c h = still-waits ys (suc e) (is ++ (7 ∷ 0 ∷ []) ∷ []) (gains c) h
+
+pub not-all-end : ¬ AllEnds mute (ends 5) (waitsAt 5 [] halfRead)
+not-all-end h = still-waits (h [] .0) 5 [] halfRead (h [] .2)
 
 -- ---- after the list
 

@@ -10,7 +10,8 @@ use lib.ListN.{length, length-set, length-map}
 use borrow.Author.Tests.{ne-eqb}
 use Rattle.snapshot.specs.declared.Refusal.{Refusal}
 use Rattle.snapshot.specs.declared.Refusal.the-variants.{OpenState, CountRange, LentSize}
-use Rattle.snapshot.specs.Days.{Machine, State, Item, openFor, updateCall, scanCall, turnOf, outside}
+use Rattle.snapshot.specs.Refusals.{outside}
+use Rattle.snapshot.specs.Days.{Machine, State, Item, openFor, updateCall, scanCall, turnOf}
 use Rattle.snapshot.specs.Days.{refusal, accept, openedBy, calledBy, advance, stepped}
 use Rattle.snapshot.proofs.Causes.{refused-first}
 use Rattle.snapshot.proofs.Admitted.{admitted-opening}

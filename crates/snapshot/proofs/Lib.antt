@@ -1,6 +1,8 @@
 -- Theorems about any method.
 pub mod Owed
 pub mod Fold
+pub mod Closing
+pub mod Ended
 pub mod Works
 pub mod Admitted
 pub mod Demand3

@@ -13,7 +13,7 @@ use lib.ListN.{List·getD-append}
 use lib.Seq.{take-at, drop-at, take-all, getD-at, getD-append-add, getD-drop, getD-take, ext-getD, drop-cons, set-at}
 use lib.Seq.{length-take-le, append-snoc, take-suc, take-take}
 use Rattle.snapshot.proofs.Booleans.{or-neither}
-use Rattle.snapshot.specs.Lists.{over, eachFrom, each, firstFrom, firstBelow, someOf}
+use Rattle.snapshot.specs.Lists.{sumOf, over, eachFrom, each, firstFrom, firstBelow, someOf}
 
 -- ---- the first n places of a over those of b
 
@@ -237,3 +237,36 @@ below-missing n j f l p =
     let r = below-less f (λ i. true) n j (λ i m q. refl) l p refl in
     let s = below-le n (λ i. true) in
     omega arith
+
+-- ---- sums
+
+module _ {A : Type 0} (f : A → ℕ) where
+  -- where one place is stored: what stood there goes, what is stored comes
+  pub sum-set : (l : List A) (i : ℕ) (a z : A) → i < length l → sumOf f (set l i a) + f (getD l i z) ≡ sumOf f l + f a
+  sum-set [] i a z b = absurd (omega arith)
+  sum-set (x ∷ l) zero a z b = omega arith
+  sum-set (x ∷ l) (suc i) a z b = omega (arith, sum-set l i a z (omega arith))
+
+  pub sum-append : (l m : List A) → sumOf f (l ++ m) ≡ sumOf f l + sumOf f m
+  sum-append [] m = omega arith
+  sum-append (x ∷ l) m = omega (arith, sum-append l m)
+
+  -- every element adds nothing
+  pub sum-replicate : (n : ℕ) (a : A) → f a ≡ 0 → sumOf f (replicate n a) ≡ 0
+  sum-replicate zero a q = refl
+  sum-replicate (suc n) a q = omega (arith, sum-replicate n a q)
+
+  -- one element is at most the sum
+  pub sum-at : (l : List A) (i : ℕ) (z : A) → i < length l → f (getD l i z) ≤ sumOf f l
+  sum-at [] i z b = absurd (omega arith)
+  sum-at (x ∷ l) zero z b = omega arith
+  sum-at (x ∷ l) (suc i) z b = omega (arith, sum-at l i z (omega arith))
+
+-- two lists of one length, with one number at each index
+pub sum-same : {A B : Type 0} (f : A → ℕ) (g : B → ℕ) (l : List A) (m : List B) (y : A) (z : B) → length l ≡ length m →
+    ((i : ℕ) → i < length l → f (getD l i y) ≡ g (getD m i z)) → sumOf f l ≡ sumOf g m
+sum-same f g [] [] y z q h = refl
+sum-same f g [] (b ∷ m) y z q h = absurd (omega arith)
+sum-same f g (a ∷ l) [] y z q h = absurd (omega arith)
+sum-same f g (a ∷ l) (b ∷ m) y z q h =
+    ap₂ _+_ (h 0 (omega arith)) (sum-same f g l m y z (omega arith) (λ i w. h (suc i) (omega arith)))

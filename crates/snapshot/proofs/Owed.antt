@@ -5,12 +5,11 @@ use mathlib.Core.Path.{_≡_}
 use mathlib.Core.Logic.{_≢_}
 use mathlib.Core.Option.{Option, none, some}
 use mathlib.Core.List.{List}
-use lib.ListN.{set}
-use Rattle.snapshot.specs.declared.Refusal.{Refusal}
+use lib.ListN.{length, getD, set}
 use Rattle.snapshot.specs.declared.Answer.{Answer}
 use Rattle.snapshot.specs.declared.Answer.the-variants.{Called, Read, Page, Written}
-use Rattle.snapshot.specs.Tally.{Job, scan, update, Seen, call, turn, bySeen, Call, opens, gains}
-use Rattle.snapshot.specs.Demand.{Method, Among, RefusalFits}
+use Rattle.snapshot.specs.Tally.{Job, scan, update, Seen, call, turn, bySeen, Call, Tally, opens, gains}
+use Rattle.snapshot.specs.Demand.{Method, Among, Endable, expected}
 
 -- the process that an item speaks of, from 0
 abbrev pub actor : Seen → ℕ
@@ -43,9 +42,12 @@ pub record Owed (M : Method) : Type 1 where
   pub Tied : (ℕ → M .State) → ℕ → ℕ → Option Call → Type 0
   pub patient : (H : ℕ → M .State) (e i : ℕ) (c : Call) → i < M .processes → Past H e → Tied H e i (some c) →
       c .turns < M .most (c .job)
-  pub refuses : (H : ℕ → M .State) (e : ℕ) (x : M .Item) (k : Refusal) (open-call : ℕ → Option Call) →
-      Past H e → M .event (H e) ≡ e → ((i : ℕ) → i < M .processes → Tied H e i (open-call i)) →
-      M .refusal (H e) x ≡ some k → RefusalFits k (M .sees x)
+  -- on a day whose tally is t every refusal is the one that the tally expects
+  pub refuses : (H : ℕ → M .State) (t : Tally (M .Value)) (x : M .Item) →
+      Past H (t .event) → M .event (H (t .event)) ≡ t .event →
+      ((i : ℕ) → i < M .processes → Tied H (t .event) i (getD (t .calls) i none)) →
+      length (t .calls) ≡ M .processes → Endable (M .most) t →
+      M .refusal (H (t .event)) x ≡ expected M t x
   pub acts : (H : ℕ → M .State) (e : ℕ) (x : M .Item) (open-call : ℕ → Option Call) →
       Past H e → M .event (H e) ≡ e → ((i : ℕ) → i < M .processes → Tied H e i (open-call i)) →
       M .refusal (H e) x ≡ none → H (suc e) ≡ M .accept (H e) x .state →

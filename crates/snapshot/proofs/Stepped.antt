@@ -68,11 +68,11 @@ module _ (M : Machine) (n : ℕ) (z : 0 < n) (Kept : M .Process → Type 0)
             (λ q. subst Kept (sym (getD-set-other (s .table) (d - 1) i p (M .noProcess) q)) (h .kept i b));
       }
 
-  call-holds : (s : State (M .Process)) (d : ℕ) (j : Job) → firstCause (callCauses M s d) ≡ none → Holding s →
+  call-holds : (s : State (M .Process)) (d : ℕ) (j : Job) → firstCause (callCauses M s d j) ≡ none → Holding s →
       Holding (calledBy M s d j)
   unfolding calledBy
   call-holds s d j q h =
-      let a = admitted-call M s d q in
+      let a = admitted-call M s d j q in
       let c = h .count in
       let l = a .suited .size in
       let m = a .suited .among in
@@ -92,7 +92,7 @@ module _ (M : Machine) (n : ℕ) (z : 0 < n) (Kept : M .Process → Type 0)
       advance-holds s d (turnBy M s d page .state) (omega arith) h
       (subst (λ k. Kept (M .turned k (d - 1) (s .day .event + 1) (readFrom M (s .table) (M .reads k p)) page p .state)) (sym c)
       (turns (d - 1) (s .day .event + 1) (readFrom M (s .table) (M .reads n p)) page p (subst (λ k. k ≤ 8) c (a .suited .small))
-      (a .right) (λ j q b. subst (λ k. Kept (readFrom M (s .table) k)) (sym q) (h .kept j b)) (h .kept (d - 1) (omega arith))))
+      (a .busy) (λ j q b. subst (λ k. Kept (readFrom M (s .table) k)) (sym q) (h .kept j b)) (h .kept (d - 1) (omega arith))))
 
   accept-holds : (s : State (M .Process)) (x : Item) → refusal M s x ≡ none → Holding s → Holding (accept M s x .state)
   unfolding refusal accept

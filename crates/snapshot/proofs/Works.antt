@@ -3,16 +3,16 @@
 use Prim.Native.Nat.{ℕ, suc, _-_, _<_}
 use mathlib.Core.Path.{_≡_}
 use mathlib.Core.Logic.{_≢_}
-use mathlib.Core.Bool.{Bool, true, false}
+use mathlib.Core.Bool.{false, not}
 use mathlib.Core.List.{List}
 use mathlib.Core.Option.{Option, none, some}
 use lib.ListN.{getD, take}
 use Rattle.snapshot.specs.declared.Answer.{Answer}
 use Rattle.snapshot.specs.declared.Answer.the-variants.{Read, Page, Written}
 use Rattle.snapshot.specs.Lists.{each}
-use Rattle.snapshot.specs.Tally.{Job, scan, update, Call, opens, gains}
+use Rattle.snapshot.specs.Tally.{Job, scan, update, Call, opens, gains, isOpen, callOwes}
 use Rattle.snapshot.specs.Demand.{Result}
-use Rattle.snapshot.specs.Days.{Machine, State, readFrom}
+use Rattle.snapshot.specs.Days.{Machine, State, processOwes, readFrom}
 use Rattle.snapshot.proofs.Views.{Good}
 
 -- a job that process i, from 0, may have: an update is of its own register
@@ -23,11 +23,6 @@ Owns i (update register w) = register - 1 ≡ i
 -- an update of its own register by word w
 abbrev pub Updates : ℕ → (w : ℕ) → Job → Type 0
 Updates i w j = (register : ℕ) × (register - 1 ≡ i) × (j ≡ update register w)
-
--- whether no call is open
-abbrev pub noCall : Option Call → Bool
-noCall none = true
-noCall (some c) = false
 
 -- process i, from 0, at instant t
 abbrev pub processAt : (M : Machine) → (ℕ → State (M .Process)) → (i t : ℕ) → M .Process
@@ -65,8 +60,9 @@ module _ (M : Machine) (n : ℕ) (H : ℕ → State (M .Process)) where
     -- at an opening
     pub laws-start : ((i : ℕ) → i < n → processAt M H i 0 ≡ M .zeroProcess) → Laws 0
     pub tie-start : (i : ℕ) → i < n → Tie 0 i (M .zeroProcess) none
-    -- a process is idle where it has no open call, has had fewer turns than the most, and can have arisen
-    pub idle : (e i : ℕ) (p : M .Process) (c : Option Call) → Tie e i p c → M .isIdle p ≡ noCall c
+    -- a process is idle where it has no open call, owes what that call does, has had fewer turns than the most, and can have arisen
+    pub idle : (e i : ℕ) (p : M .Process) (c : Option Call) → Tie e i p c → M .isIdle p ≡ not (isOpen c)
+    pub owing : (e i : ℕ) (p : M .Process) (c : Option Call) → Tie e i p c → processOwes M n p ≡ callOwes (M .most n) c
     pub patient : (e i : ℕ) (c : Call) → i < n → Laws e → Tie e i (processAt M H i e) (some c) → c .turns < M .most n (c .job)
     pub sound : (e i : ℕ) (c : Option Call) → i < n → Laws e → Tie e i (processAt M H i e) c →
         M .unsound n e (processAt M H i e) ≡ false

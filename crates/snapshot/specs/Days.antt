@@ -11,8 +11,8 @@ use Rattle.snapshot.specs.declared.Refusal.{Refusal}
 use Rattle.snapshot.specs.declared.Refusal.the-variants.{CountRange, ProcessRange, Busy, Idle, DayFull, LentSize}
 use Rattle.snapshot.specs.declared.Refusal.the-variants.{OpenState, CannotArise}
 use Rattle.snapshot.specs.declared.Answer.the-variants.{Opened, Called}
-use Rattle.snapshot.specs.Lists.{someOf}
-use Rattle.snapshot.specs.Refusals.{Cause, firstCause}
+use Rattle.snapshot.specs.Lists.{someOf, sumOf}
+use Rattle.snapshot.specs.Refusals.{Cause, firstCause, outside, isPast, isFull}
 use Rattle.snapshot.specs.Tally.{Job, scan, update, Seen, opening, call, turn}
 use Rattle.snapshot.specs.Demand.{Method, Result, step}
 
@@ -22,8 +22,11 @@ pub record Machine : Type 1 where
   pub Process : Type 0
   pub noProcess : Process
   pub zeroProcess : Process
-  -- it has no task; it cannot have arisen on a day of n processes at event e
+  -- it has no task; the greatest number of turns of its task on a day of n processes, 0 for none, and the accepted turns that the
+  -- task has had; it cannot have arisen on such a day at event e
   pub isIdle : Process → Bool
+  pub greatest : (n : ℕ) → Process → ℕ
+  pub turnsHad : Process → ℕ
   pub unsound : (n e : ℕ) → Process → Bool
   -- what a page shows of its register, and what that is once event e has written a word
   pub Value : Type 0
@@ -69,52 +72,62 @@ pageLent (turnOf d page) = page
 
 -- ---- refusals
 
--- n is outside low to high
-abbrev pub outside : ℕ → ℕ → ℕ → Bool
-outside low high n = ltb n low || ltb high n
-
--- "the event number is 65,535"
-unfoldable pub isFull : ℕ → Bool
-isFull e = eqb e 65535
-
--- "if the desk count is above 8, the event number above 65,535, or if in any of the n records .."
-abbrev pub cannotArise : Day → Bool → Bool
-cannotArise d bad = ltb 8 (d .count) || (ltb 65535 (d .event) || bad)
+-- 11: "if the desk count is above 8, the event number above 65,535, or if in any of the n records .."; K2: "also when event number
+-- plus all turns owed", here end, "exceeds 65,535", as it does where the event number alone is above it
+abbrev pub cannotArise : (count end : ℕ) → (bad : Bool) → Bool
+cannotArise count end bad = ltb 8 count || (isPast end || bad)
 
 module _ (M : Machine) where
   -- process d of the table
   abbrev pub processOf : State (M .Process) → ℕ → M .Process
   processOf s d = getD (s .table) (d - 1) (M .noProcess)
 
+  -- K2: "A task owes its greatest number of turns .. less the turns it has had"; and "all turns owed"
+  abbrev pub processOwes : (n : ℕ) → M .Process → ℕ
+  processOwes n p = M .greatest n p - M .turnsHad p
+
+  abbrev pub tableOwes : State (M .Process) → ℕ
+  tableOwes s = sumOf (processOwes (s .day .count)) (s .table)
+
+  -- "if in any of the n records .."
+  abbrev pub someUnsound : State (M .Process) → Bool
+  someUnsound s = someOf (M .unsound (s .day .count) (s .day .event)) (s .table)
+
   -- "Order for opening: 10, 1, 6 (the table must have the asked number of records)"
   abbrev pub openingCauses : State (M .Process) → ℕ → List Cause
   openingCauses s k =
       (not (eqb (s .day .count) 0), OpenState) ∷ (outside 1 8 k, CountRange) ∷ (not (eqb (length (s .table)) k), LentSize) ∷ []
 
-  -- "For calls and turns: 10, 6, 11, 2, then 3 or 4, then 5": of process d, by whether a page list is short, and with 3 or 4
-  abbrev pub causes : State (M .Process) → (d : ℕ) → (short : Bool) → Cause → List Cause
-  causes s d short wrong =
+  -- "For calls and turns: 10, 6, 11, 2, then 3 or 4, then 5": of process d, by whether a page list is short, and what comes last
+  abbrev pub causes : State (M .Process) → (d : ℕ) → (short : Bool) → (last : List Cause) → List Cause
+  causes s d short last =
       (eqb (s .day .count) 0, OpenState)
       ∷ (not (eqb (length (s .table)) (s .day .count)) || short, LentSize)
-      ∷ (cannotArise (s .day) (someOf (M .unsound (s .day .count) (s .day .event)) (s .table)), CannotArise)
+      ∷ (cannotArise (s .day .count) (s .day .event + tableOwes s) (someUnsound s), CannotArise)
       ∷ (outside 1 (s .day .count) d, ProcessRange)
-      ∷ wrong
-      ∷ (isFull (s .day .event), DayFull)
-      ∷ []
+      ∷ last
 
-  -- 3: "a call by a desk that isn't idle"
-  abbrev pub callCauses : State (M .Process) → ℕ → List Cause
-  callCauses s d = causes s d false (not (M .isIdle (processOf s d)), Busy)
+  -- 3: "a call by a desk that isn't idle"; 5 of the job that the call asks for
+  abbrev pub lastOfCall : State (M .Process) → ℕ → Job → List Cause
+  lastOfCall s d j =
+      (not (M .isIdle (processOf s d)), Busy) ∷ (isFull (s .day .event) (tableOwes s) (M .most (s .day .count) j), DayFull) ∷ []
 
-  -- 4: "a turn for an idle desk"; 6: "on a turn, the page list has fewer than n words"
+  -- 4: "a turn for an idle desk"; of 5, "a turn never meets it now"
+  abbrev pub lastOfTurn : State (M .Process) → ℕ → List Cause
+  lastOfTurn s d = (M .isIdle (processOf s d), Idle) ∷ []
+
+  abbrev pub callCauses : State (M .Process) → ℕ → Job → List Cause
+  callCauses s d j = causes s d false (lastOfCall s d j)
+
+  -- 6: "on a turn, the page list has fewer than n words"
   abbrev pub turnCauses : State (M .Process) → ℕ → List ℕ → List Cause
-  turnCauses s d page = causes s d (ltb (length page) (M .pageLength (s .day .count))) (M .isIdle (processOf s d), Idle)
+  turnCauses s d page = causes s d (ltb (length page) (M .pageLength (s .day .count))) (lastOfTurn s d)
 
   -- "Only the number is returned": the first cause that holds
   unfoldable pub refusal : State (M .Process) → Item → Option Refusal
   refusal s (openFor k) = firstCause (openingCauses s k)
-  refusal s (updateCall d w) = firstCause (callCauses s d)
-  refusal s (scanCall d) = firstCause (callCauses s d)
+  refusal s (updateCall d w) = firstCause (callCauses s d (update d w))
+  refusal s (scanCall d) = firstCause (callCauses s d scan)
   refusal s (turnOf d page) = firstCause (turnCauses s d page)
 
   -- ---- what an accepted item does
@@ -171,6 +184,7 @@ module _ (M : Machine) where
         event = λ s. s .day .event;
         words = λ s. map (M .value) (s .table);
         processes = n;
+        pageLength = M .pageLength n;
         most = M .most n;
       }
 

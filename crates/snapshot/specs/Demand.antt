@@ -1,15 +1,18 @@
 -- Demand 3 as a statement about a method: any n, any list of items, one claim about the whole list.
-use Prim.Native.Nat.{ℕ, suc, _≤_, _<_}
+use Prim.Native.Nat.{ℕ, suc, _+_, _≤_, _<_}
 use mathlib.Core.Path.{_≡_}
-use mathlib.Core.Logic.{_≢_}
+use mathlib.Core.Bool.{true, not}
 use mathlib.Core.List.{List, [], _∷_}
 use mathlib.Core.Option.{Option, none, some}
-use lib.ListN.{getD}
+use lib.Dec.{ltb}
+use lib.ListN.{length, getD}
 use Rattle.snapshot.specs.declared.Refusal.{Refusal}
-use Rattle.snapshot.specs.declared.Refusal.the-variants.{OpenState, CannotArise}
+use Rattle.snapshot.specs.declared.Refusal.the-variants.{ProcessRange, Busy, Idle, DayFull, LentSize, OpenState}
 use Rattle.snapshot.specs.declared.Answer.{Answer}
 use Rattle.snapshot.specs.declared.Answer.the-variants.{Refused, Opened, Called, Read, Page, Written}
-use Rattle.snapshot.specs.Tally.{Job, scan, update, Seen, bySeen, Call, Tally, callOf, instant, tallied}
+use Rattle.snapshot.specs.Refusals.{Cause, firstCause, outside, isFull}
+use Rattle.snapshot.specs.Tally.{Job, scan, update, Seen, opening, call, turn, bySeen, Call, Tally, callOf, instant, tallied}
+use Rattle.snapshot.specs.Tally.{isOpen, tallyOwes}
 
 -- what an item gives: the state it leaves, its answer, and its lent page list afterwards
 pub record Result (S : Type 0) : Type 0 where
@@ -35,8 +38,9 @@ pub record Method : Type 1 where
   -- the event number of a state, and the values in its registers
   pub event : State → ℕ
   pub words : State → List Value
-  -- the number of processes, and the most accepted turns of a job
+  -- the number of processes, how many places of a page list a page takes, and the most accepted turns of a job
   pub processes : ℕ
+  pub pageLength : ℕ
   pub most : Job → ℕ
 
 -- ---- one item
@@ -56,9 +60,34 @@ module _ (M : Method) where
 abbrev pub Among : ℕ → ℕ → Type 0
 Among n d = (0 < d) × (d ≤ n)
 
--- "a further opening gets 10", and no item finds a day that cannot have arisen (11)
-abbrev pub RefusalFits : Refusal → Seen → Type 0
-RefusalFits k x = bySeen (k ≡ OpenState) (λ d j. k ≢ CannotArise) (λ d. k ≢ CannotArise) x
+-- the refusal that an answer is, if it is one
+abbrev pub refusalOf : Answer → Option Refusal
+refusalOf (Refused k) = some k
+refusalOf Opened = none
+refusalOf Called = none
+refusalOf Read = none
+refusalOf (Page lender at turns) = none
+refusalOf (Written turns) = none
+
+module _ (M : Method) (t : Tally (M .Value)) where
+  -- the causes to refuse an item after an opening, from the tally and the item alone, in document 01's order: "a further opening gets
+  -- 10"; a call can get 2, 3 and 5; a turn, by the page list that it lends, 6, 2 and 4. Nothing gets 11
+  abbrev pub expectedCauses : Seen → (page : List ℕ) → List Cause
+  expectedCauses opening page = (true, OpenState) ∷ []
+  expectedCauses (call d j) page =
+      (outside 1 (M .processes) d, ProcessRange)
+      ∷ (isOpen (callOf t d), Busy)
+      ∷ (isFull (t .event) (tallyOwes (M .most) t) (M .most j), DayFull)
+      ∷ []
+  expectedCauses (turn d) page =
+      (ltb (length page) (M .pageLength), LentSize)
+      ∷ (outside 1 (M .processes) d, ProcessRange)
+      ∷ (not (isOpen (callOf t d)), Idle)
+      ∷ []
+
+  -- the refusal that the tally expects of an item
+  abbrev pub expected : M .Item → Option Refusal
+  expected x = firstCause (expectedCauses (M .sees x) (M .pageLent x))
 
 -- "an accepted turn finds one"
 abbrev pub Waiting : Option Call → Type 0
@@ -88,9 +117,9 @@ abbrev pub WrittenFits : (Job → ℕ) → ℕ → Option Call → Type 0
 WrittenFits most turns none = ⊥
 WrittenFits most turns (some c) = IsUpdate (c .job) × TurnsFit most turns c
 
--- an item's answer, with the words that its page list then shows, against the tally before it
+-- an item's answer, with the words that its page list then shows, against the tally before it; of a refusal `expected` says all
 abbrev pub Fits : {Value : Type 0} → ℕ → (Job → ℕ) → Tally Value → Seen → List Value → Answer → Type 0
-Fits n most t x ws (Refused k) = RefusalFits k x
+Fits n most t x ws (Refused k) = Unit {0}
 Fits n most t x ws Opened = ⊥
 Fits n most t x ws Called = bySeen ⊥ (λ d j. Among n d × (callOf t d ≡ none)) (λ d. ⊥) x
 Fits n most t x ws Read = bySeen ⊥ (λ d j. ⊥) (λ d. Among n d × Waiting (callOf t d)) x
@@ -102,6 +131,10 @@ Fits n most t x ws (Written turns) = bySeen ⊥ (λ d j. ⊥) (λ d. Among n d �
 abbrev pub Patient : {Value : Type 0} → (Job → ℕ) → Tally Value → Type 0
 Patient most t = (i : ℕ) (c : Call) → getD (t .calls) i none ≡ some c → c .turns < most (c .job)
 
+-- "all work can still be ended" (document 02, K2): the day has an event left for every turn owed
+abbrev pub Endable : {Value : Type 0} → (Job → ℕ) → Tally Value → Type 0
+Endable most t = t .event + tallyOwes most t ≤ 65535
+
 -- ---- the whole list
 
 module _ (M : Method) where
@@ -111,6 +144,8 @@ module _ (M : Method) where
   Holds s t (x ∷ xs) =
       let r = step M s x in
       let t′ = tallied (M .stored) t (M .sees x) (r .answer) in
-      Fits (M .processes) (M .most) t (M .sees x) (M .shown (r .page)) (r .answer)
+      (refusalOf (r .answer) ≡ expected M t x)
+      × Fits (M .processes) (M .most) t (M .sees x) (M .shown (r .page)) (r .answer)
       × Patient (M .most) t′
+      × Endable (M .most) t′
       × Holds (r .state) t′ xs

@@ -1,5 +1,5 @@
 -- The few shapes of lists that the methods are written in.
-use Prim.Native.Nat.{ℕ, zero, suc}
+use Prim.Native.Nat.{ℕ, zero, suc, _+_}
 use mathlib.Core.Bool.{Bool, true, false, cond, _&&_, _||_}
 use mathlib.Core.List.{List, [], _∷_, _++_}
 use lib.Dec.{leb}
@@ -36,6 +36,11 @@ everyFrom f (suc k) j = f j && everyFrom f k (suc j)
 abbrev pub someOf : {A : Type 0} → (A → Bool) → List A → Bool
 someOf f [] = false
 someOf f (x ∷ xs) = f x || someOf f xs
+
+-- the sum of f over the elements
+abbrev pub sumOf : {A : Type 0} → (A → ℕ) → List A → ℕ
+sumOf f [] = 0
+sumOf f (x ∷ xs) = f x + sumOf f xs
 
 -- the elements that pass the test, in their order
 abbrev pub keep : {A : Type 0} → (A → Bool) → List A → List A

@@ -1,8 +1,9 @@
 -- Refusals: their numbers, and the rule that the first cause in the papers' order is the one answered.
-use Prim.Native.Nat.{ℕ}
-use mathlib.Core.Bool.{Bool, cond}
+use Prim.Native.Nat.{ℕ, _+_}
+use mathlib.Core.Bool.{Bool, cond, _||_}
 use mathlib.Core.List.{List, [], _∷_}
 use mathlib.Core.Option.{Option, none, some}
+use lib.Dec.{ltb}
 use Rattle.snapshot.specs.declared.Refusal.{Refusal}
 use Rattle.snapshot.specs.declared.Refusal.the-variants.{CountRange, ProcessRange, Busy, Idle, DayFull, LentSize}
 use Rattle.snapshot.specs.declared.Refusal.the-variants.{CutShort, UnknownKind, WrongLength, OpenState, CannotArise, RoomShort}
@@ -30,3 +31,17 @@ Cause = Bool × Refusal
 abbrev pub firstCause : List Cause → Option Refusal
 firstCause [] = none
 firstCause (c ∷ cs) = cond (c .0) (some (c .1)) (firstCause cs)
+
+-- ---- tests that a method's day and the tally share
+
+-- n is outside low to high
+abbrev pub outside : ℕ → ℕ → ℕ → Bool
+outside low high n = ltb n low || ltb high n
+
+-- "exceeds 65,535": a day has no event of that number
+unfoldable pub isPast : ℕ → Bool
+isPast e = ltb 65535 e
+
+-- 5 (document 02, K2): "the event number plus 1, plus all turns owed, plus the greatest number for the new task, exceeds 65,535"
+abbrev pub isFull : (event owed most : ℕ) → Bool
+isFull event owed most = isPast (event + 1 + owed + most)

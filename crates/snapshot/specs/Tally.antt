@@ -1,9 +1,11 @@
 -- The tally for demand 3 (document 01, The tally for demand 3): what a list of items and their answers says by itself.
 -- It is fed of each item what `Seen` holds, and its answer. It sees neither the day nor its records.
 use Prim.Native.Nat.{ℕ, suc, _-_}
+use mathlib.Core.Bool.{Bool, true, false}
 use mathlib.Core.List.{List, [], _∷_, _++_}
 use mathlib.Core.Option.{Option, none, some, Option·map}
 use lib.ListN.{getD, set, replicate}
+use Rattle.snapshot.specs.Lists.{sumOf}
 use Rattle.snapshot.specs.declared.Answer.{Answer}
 use Rattle.snapshot.specs.declared.Answer.the-variants.{Refused, Opened, Called, Read, Page, Written}
 
@@ -91,3 +93,18 @@ tallied stored t x Read = bySeen t (λ d j. t) (λ d. advanced t (t .words) d (O
 tallied stored t x (Page lender at turns) = bySeen t (λ d j. t) (λ d. advanced t (t .words) d none) x
 tallied stored t x (Written turns) =
     bySeen t (λ d j. t) (λ d. advanced t (putsIf (stored (suc (t .event))) (t .words) (callOf t d)) d none) x
+
+-- ---- what is owed (document 02, K2); most is the greatest number of turns of a job
+
+abbrev pub isOpen : Option Call → Bool
+isOpen none = false
+isOpen (some c) = true
+
+-- "A task owes its greatest number of turns .. less the turns it has had"
+abbrev pub callOwes : (most : Job → ℕ) → Option Call → ℕ
+callOwes most none = 0
+callOwes most (some c) = most (c .job) - c .turns
+
+-- "all turns owed"
+abbrev pub tallyOwes : {Value : Type 0} → (most : Job → ℕ) → Tally Value → ℕ
+tallyOwes most t = sumOf (callOwes most) (t .calls)

@@ -1,33 +1,33 @@
 -- Demand 3 for Figure 3's method: every n from 1 to 8, every reading order, every list of items.
-use Prim.Native.Nat.{ℕ, _≤_, _<_}
+use Prim.Native.Nat.{ℕ, _-_, _≤_, _<_}
 use native.Mathlib.Omega.{arith}
 use mathlib.Core.Path.{_≡_, refl, sym, ap, ap₂, _∙_, subst}
-use mathlib.Core.Bool.{false, _||_}
+use mathlib.Core.Bool.{false, not, _||_}
 use mathlib.Core.List.{List}
 use mathlib.Core.Option.{Option, none, some}
 use lib.ListN.{take}
 use borrow.Author.Tests.{le-ltb, lt-leb}
-use Rattle.snapshot.specs.Tally.{Call, started}
+use Rattle.snapshot.specs.Tally.{Call, started, isOpen, callOwes}
 use Rattle.snapshot.specs.Demand.{Holds, step}
 use Rattle.snapshot.specs.Days as Days
 use Rattle.snapshot.specs.Days.{State, Item, openFor, refusal, accept}
 use Rattle.snapshot.proofs.Lists.{take-replicate, each-replicate}
 use Rattle.snapshot.proofs.Traces.{history-start}
-use Rattle.snapshot.proofs.Works.{noCall, processAt, Works}
+use Rattle.snapshot.proofs.Works.{processAt, Works}
 use Rattle.snapshot.proofs.Demand3 as machine
 use Rattle.unbounded.specs.declared.Process.{Process}
 use Rattle.unbounded.specs.declared.Task.{Task}
 use Rattle.unbounded.specs.declared.Task.the-variants.{Idle, Scan, Update, Ready}
 use Rattle.unbounded.specs.Registers.{value, Order, ascending}
-use Rattle.unbounded.specs.Processes.{zeroProcess, isIdle}
-use Rattle.unbounded.specs.Days.{mostReads, mostTurns, overdue, unsound, figure3, method, openedFor}
+use Rattle.unbounded.specs.Processes.{zeroProcess, isIdle, turnsOf}
+use Rattle.unbounded.specs.Days.{mostReads, mostTurns, greatest, overdue, unsound, figure3, method, openedFor}
 use Rattle.unbounded.proofs.Scans.{Permutes, trace}
 use Rattle.unbounded.proofs.Scanning.{scanning-patient}
 use Rattle.unbounded.proofs.Ties.{registerAt, Laws, Tie, Ties, others-tied}
 use Rattle.unbounded.proofs.Deeds.{call-works, turn-works}
 
 module _ (n : ℕ) (o : Order) (H : ℕ → State Process) where
-  tie-idle : (e i : ℕ) (p : Process) (k : Task) (c : Option Call) → Tie n o H e i p k c → isIdle k ≡ noCall c
+  tie-idle : (e i : ℕ) (p : Process) (k : Task) (c : Option Call) → Tie n o H e i p k c → isIdle k ≡ not (isOpen c)
   tie-idle e i p Idle none t = refl
   tie-idle e i p Idle (some c) t = absurd t
   tie-idle e i p (Scan k) none t = absurd t
@@ -36,6 +36,17 @@ module _ (n : ℕ) (o : Order) (H : ℕ → State Process) where
   tie-idle e i p (Update w k) (some c) t = refl
   tie-idle e i p (Ready w at k) none t = absurd t
   tie-idle e i p (Ready w at k) (some c) t = refl
+
+  tie-owes : (e i : ℕ) (p : Process) (k : Task) (c : Option Call) → Tie n o H e i p k c →
+      greatest (mostReads n) k - turnsOf k ≡ callOwes (mostTurns n) c
+  tie-owes e i p Idle none t = refl
+  tie-owes e i p Idle (some c) t = absurd t
+  tie-owes e i p (Scan k) none t = absurd t
+  tie-owes e i p (Scan k) (some c) t = ap₂ (λ j u. mostTurns n j - u) (sym (t .0)) (sym (t .1))
+  tie-owes e i p (Update w k) none t = absurd t
+  tie-owes e i p (Update w k) (some c) t = ap₂ (λ j u. mostTurns n j - u) (sym (t .0 .2)) (sym (t .1))
+  tie-owes e i p (Ready w at k) none t = absurd t
+  tie-owes e i p (Ready w at k) (some c) t = ap₂ (λ j u. mostTurns n j - u) (sym (t .0 .2)) (sym (t .1))
 
   module _ (e i : ℕ) (b : i < n) (L : Laws n o H e) where
     tie-patient : (p : Process) (k : Task) (c : Call) → Tie n o H e i p k (some c) → c .turns < mostTurns n (c .job)
@@ -86,6 +97,7 @@ module _ (n : ℕ) (o : Order) (H : ℕ → State Process) where
           tie = tt;
         };
         idle = λ e i p c T. tie-idle e i p (p .task) c (T .tie);
+        owing = λ e i p c T. tie-owes e i p (p .task) c (T .tie);
         patient = λ e i c b L T. let p = processAt (figure3 o) H i e in tie-patient e i b L p (p .task) c (T .tie);
         sound = λ e i c b L T. sound e i b L c T;
         waits = λ e i p L E j c b h T. others-tied n o H e i p L E j c h T;

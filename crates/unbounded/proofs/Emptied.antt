@@ -181,11 +181,11 @@ module _ (o : Order) (s : State Process) (d : ℕ) where
   unfolding advance
   left-is p l = getD-set-same (s .table) (d - 1) p noProcess l
 
-  call-empties : (j : Job) → firstCause (callCauses (figure3 o) s d) ≡ none → Sized (getD (s .table) (d - 1) noProcess) →
+  call-empties : (j : Job) → firstCause (callCauses (figure3 o) s d j) ≡ none → Sized (getD (s .table) (d - 1) noProcess) →
       NothingCollected (s .day .count) (getD (calledBy (figure3 o) s d j .table) (d - 1) noProcess)
   unfolding calledBy
   call-empties j q S =
-      let a = admitted-call (figure3 o) s d q in
+      let a = admitted-call (figure3 o) s d j q in
       let n = s .day .count in
       let p = getD (s .table) (d - 1) noProcess in
       let l = a .suited .size in

@@ -9,6 +9,7 @@ pub mod Ties
 pub mod Deeds
 pub mod Demand3
 pub mod Book
+pub mod Closing
 pub mod Emptied
 pub mod Whole
 pub mod PlacesPast

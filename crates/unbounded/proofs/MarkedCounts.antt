@@ -11,16 +11,17 @@ use mathlib.Core.Option.{Option, none, some}
 use lib.ListN.{length, getD, set, take, replicate, length-set, length-replicate, getD-replicate}
 use lib.Seq.{getD-set-same, getD-set-other}
 use borrow.Author.Tests.{eq-eqb, ne-eqb, lt-ltb, le-ltb, lt-leb}
-use Rattle.snapshot.specs.Lists.{someOf}
+use Rattle.snapshot.specs.Lists.{someOf, sumOf}
+use Rattle.snapshot.specs.Refusals.{outside, isPast}
 use Rattle.snapshot.specs.Demand.{admit, step}
 use Rattle.snapshot.specs.Days as Days
 use Rattle.snapshot.specs.Days.{State, Item, openFor, scanCall, turnOf}
-use Rattle.snapshot.specs.Days.{outside, isFull, refusal, advance, calledBy, readFrom, turnBy, accept}
+use Rattle.snapshot.specs.Days.{processOwes, refusal, advance, calledBy, readFrom, turnBy, accept}
 use Rattle.snapshot.specs.Replies.{Reply, refused, opened, called, read, replyOf, replies}
 use Rattle.snapshot.specs.declared.Answer.the-variants.{Read}
 use Rattle.snapshot.specs.declared.Refusal.{Refusal}
 use Rattle.snapshot.specs.declared.Refusal.the-variants.{ProcessRange, LentSize}
-use Rattle.snapshot.proofs.Lists.{some-of-none}
+use Rattle.snapshot.proofs.Lists.{some-of-none, sum-replicate, sum-set}
 use Rattle.unbounded.specs.declared.Register.{Register}
 use Rattle.unbounded.specs.declared.Process.{Process}
 use Rattle.unbounded.specs.declared.Task.the-variants.{Scan}
@@ -30,6 +31,7 @@ use Rattle.unbounded.specs.Turns.{position, reads, foundBy, scanTurn, tu
 use Rattle.unbounded.specs.Days.{mostReads, unsound, figure3, method, openedFor}
 use Rattle.unbounded.specs.MarkedDays.{blank, played, dayG, dayH}
 use Rattle.unbounded.proofs.Reading.{decision-waits}
+use Rattle.unbounded.proofs.Limits.{few-reads}
 use Rattle.unbounded.proofs.Demand3.{opening-opens}
 
 -- a page list of k words
@@ -76,15 +78,23 @@ module _ (n : ℕ) (z : 0 < n) (eight : n ≤ 8) where
       ap (unsound (mostReads n) e) (getD-replicate n i zeroProcess noProcess b)
       ∙ rw (le-ltb e 0 (omega arith)))
 
+  -- the turns that a table owes
+  abbrev owed : List Process → ℕ
+  owed ps = sumOf (processOwes (figure3 ascending) n) ps
+
+  zeros-owe : owed zeros ≡ 0
+  zeros-owe = sum-replicate (processOwes (figure3 ascending) n) n zeroProcess refl
+
   outside-refused : (d : ℕ) → outside 1 n d ≡ true →
       refusal (figure3 ascending) (openedFor n) (turnOf d (nines n)) ≡ some ProcessRange
-  unfolding refusal Days.openedFor
+  unfolding refusal Days.openedFor isPast
   outside-refused d h =
       rw (
         ne-eqb n 0 (λ q. omega arith),
         eq-eqb (length zeros) n (length-replicate n zeroProcess),
         le-ltb (length (nines n)) n (omega (arith, length-replicate {A = ℕ} n 9)),
         le-ltb 8 n eight,
+        zeros-owe,
         sound-zeros 0,
         h,
       )
@@ -114,15 +124,18 @@ module _ (n : ℕ) (z : 0 < n) (eight : n ≤ 8) where
   first-zero = getD-replicate n 0 zeroProcess noProcess z
 
   call-accepted : refusal (figure3 ascending) (openedFor n) (scanCall 1) ≡ none
-  unfolding refusal Days.openedFor isFull
+  unfolding refusal Days.openedFor isPast
   call-accepted =
+      let few = few-reads n eight in
       rw (
         ne-eqb n 0 (λ q. omega arith),
         eq-eqb (length zeros) n (length-replicate n zeroProcess),
         le-ltb 8 n eight,
+        zeros-owe,
         sound-zeros 0,
         le-ltb n 1 z,
         first-zero,
+        le-ltb 65535 (1 + mostReads n) (omega arith),
       )
 
   -- the record of a process whose scan just began
@@ -150,14 +163,24 @@ module _ (n : ℕ) (z : 0 < n) (eight : n ≤ 8) where
       let b : i < n = omega (arith, length-with scanner) in
       ap (unsound (mostReads n) 1) (getD-set-other zeros 0 i scanner noProcess q ∙ getD-replicate n i zeroProcess noProcess b)))
 
+  -- its scan owes its most turns
+  scanner-owes : owed (tableWith scanner) ≤ 128
+  unfolding begin
+  scanner-owes =
+      let few = few-reads n eight in
+      let set-owes = sum-set (processOwes (figure3 ascending) n) zeros 0 scanner noProcess (omega (arith, length-replicate n zeroProcess)) in
+      omega (arith, zeros-owe)
+
   turn-accepted : refusal (figure3 ascending) (dayWith 1 scanner) (turnOf 1 (nines n)) ≡ none
-  unfolding refusal isFull begin
+  unfolding refusal isPast begin
   turn-accepted =
+      let few = scanner-owes in
       rw (
         ne-eqb n 0 (λ q. omega arith),
         eq-eqb (length (tableWith scanner)) n (length-with scanner),
         le-ltb (length (nines n)) n (omega (arith, length-replicate {A = ℕ} n 9)),
         le-ltb 8 n eight,
+        le-ltb 65535 (1 + owed (tableWith scanner)) (omega arith),
         sound-calls,
         le-ltb n 1 z,
         first-with scanner,

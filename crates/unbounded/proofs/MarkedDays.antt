@@ -3,7 +3,8 @@ use Prim.Native.Nat.{ℕ, _≤_, _<_}
 use mathlib.Core.Path.{_≡_, refl, sym, ap₂, _∙_}
 use mathlib.Core.List.{List, [], _∷_, _++_, map, map-append}
 use Rattle.snapshot.specs.Demand.{step}
-use Rattle.snapshot.specs.Days.{isFull, refusal, openedBy, advance, calledBy, turnBy, accept}
+use Rattle.snapshot.specs.Refusals.{isPast}
+use Rattle.snapshot.specs.Days.{refusal, openedBy, advance, calledBy, turnBy, accept}
 use Rattle.snapshot.specs.Replies.{Reply}
 use Rattle.snapshot.specs.Verdict.{verdict}
 use Rattle.snapshot.specs.Marks.{isMoved, withMoved, lends}
@@ -19,7 +20,7 @@ abbrev expected : MarkedDay → List (Reply ℕ)
 expected d = d .expected
 
 fixed-days-follow : map played fixedDays ≡ map expected fixedDays
-unfolding fixedDays step isFull refusal openedBy advance calledBy turnBy accept verdict isMoved withMoved lends laid readInto
+unfolding fixedDays step isPast refusal openedBy advance calledBy turnBy accept verdict isMoved withMoved lends laid readInto
     cleared pageOf differs begin position placeAt firstAfter secondAfter endAfter decision marksAfter afterRead foundBy written
     turned mostReads unsound
 fixed-days-follow = refl

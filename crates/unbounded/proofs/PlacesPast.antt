@@ -200,11 +200,11 @@ module _ (o : Order) (s : State Process) (P : Permutes (s .day .count) o)
       (subst (SamePast n (at (d - 1))) (sym (getD-set-same (s .table) (d - 1) p noProcess l)) h))
       (λ q. subst (SamePast n (at i)) (sym (getD-set-other (s .table) (d - 1) i p noProcess q)) (same-past n (at i)))
 
-  call-past : (d : ℕ) (j : Job) → firstCause (callCauses (figure3 o) s d) ≡ none → (i : ℕ) →
+  call-past : (d : ℕ) (j : Job) → firstCause (callCauses (figure3 o) s d j) ≡ none → (i : ℕ) →
       SamePast n (at i) (getD (calledBy (figure3 o) s d j .table) i noProcess)
   unfolding calledBy
   call-past d j q =
-      let a = admitted-call (figure3 o) s d q in
+      let a = admitted-call (figure3 o) s d j q in
       let l = a .suited .size in
       let m = a .suited .among in
       advance-past d (begin n (taskOf j 0) (at (d - 1))) (omega arith)

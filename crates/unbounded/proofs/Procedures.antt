@@ -23,7 +23,6 @@ use Rattle.snapshot.specs.Refusals.{firstCause}
 use Rattle.snapshot.specs.declared.Refusal.{Refusal}
 use Rattle.snapshot.specs.declared.Answer.the-variants.{Written}
 use Rattle.snapshot.specs.Verdict.{Verdict, verdict}
-use Rattle.snapshot.proofs.Booleans.{not-false}
 use Rattle.snapshot.proofs.Lists.{length-over, getD-over, getD-map-below}
 use Rattle.snapshot.proofs.DoubleCollect.{Ends, nobody, lender, goes-on, verdict-ends}
 use Rattle.snapshot.proofs.Stepped.{refusal-changes-nothing, acceptance-does}
@@ -367,10 +366,10 @@ module _ (n : ℕ) (z : 0 < n) (eight : n ≤ 8) (o : Order) (P : Permutes n o) 
   -- ---- one item
 
   module _ (s : State Process) (L : Lent s) where
-    call-idle : (c : ℕ) → firstCause (callCauses M s c) ≡ none → Among n c × (isIdle (owner s c .task) ≡ true)
-    call-idle c q =
-        let a = admitted-call M s c q in
-        (subst (λ k. Among k c) (L .count) (a .suited .among), not-false (isIdle (owner s c .task)) (a .right))
+    call-idle : (c : ℕ) (j : Job) → firstCause (callCauses M s c j) ≡ none → Among n c × (isIdle (owner s c .task) ≡ true)
+    call-idle c j q =
+        let a = admitted-call M s c j q in
+        (subst (λ k. Among k c) (L .count) (a .suited .among), a .idle)
 
     turn-busy : (c : ℕ) (page : List ℕ) → firstCause (turnCauses M s c page) ≡ none → Among n c
     turn-busy c page q = subst (λ k. Among k c) (L .count) (admitted-turn M s c page q .suited .among)
@@ -416,10 +415,10 @@ module _ (n : ℕ) (z : 0 < n) (eight : n ≤ 8) (o : Order) (P : Permutes n o) 
     unfolding refusal accept
     moves-accepted (openFor k) q = absurd (never-opens k q)
     moves-accepted (updateCall c w) q =
-        let i = call-idle c q in
+        let i = call-idle c (update c w) q in
         subst (λ u. Moves (updateCall c w) none u) (sym (called-by c (update c w))) (updates c w (i .0) (i .1))
     moves-accepted (scanCall c) q =
-        let i = call-idle c q in subst (λ u. Moves (scanCall c) none u) (sym (called-by c scan)) (scans c (i .0) (i .1))
+        let i = call-idle c scan q in subst (λ u. Moves (scanCall c) none u) (sym (called-by c scan)) (scans c (i .0) (i .1))
     moves-accepted (turnOf c page) q =
         subst (λ r. Moves (turnOf c page) none (advance M s c (r .state))) (sym (turn-by c page))
         (turns c page (turn-busy c page q))
@@ -562,7 +561,7 @@ module _ (n : ℕ) (z : 0 < n) (eight : n ≤ 8) (o : Order) (P : Permutes n o) 
         Performs o n d (scanProcedure o n k) 0 (stepped M s (scanCall d) .state) items
     unfolding refusal accept
     scan-performs items few a =
-        let m = call-idle s L d a .0 in
+        let m = call-idle s L d scan a .0 in
         performs d m items (scanProcedure o n k) 0 (stepped M s (scanCall d) .state)
         (lent-moved s L (moves s L (scanCall d))) (scan-lasts o n k (length items) z few)
         (subst (λ p. Does o n (scanProcedure o n k) 0 p) (sym (after-call (scanCall d) scan a m refl))
@@ -572,7 +571,7 @@ module _ (n : ℕ) (z : 0 < n) (eight : n ≤ 8) (o : Order) (P : Permutes n o) 
         Performs o n d (updateProcedure o n k w own-seq) 0 (stepped M s (updateCall d w) .state) items
     unfolding refusal accept
     update-performs items few w a =
-        let m = call-idle s L d a .0 in
+        let m = call-idle s L d (update d w) a .0 in
         performs d m items (updateProcedure o n k w own-seq) 0 (stepped M s (updateCall d w) .state)
         (lent-moved s L (moves s L (updateCall d w))) (update-lasts o n k w own-seq (length items) z few)
         (subst (λ p. Does o n (updateProcedure o n k w own-seq) 0 p) (sym (after-call (updateCall d w) (update d w) a m refl))

@@ -2,15 +2,16 @@
 use Prim.Native.Nat.{ℕ, _+_, _*_}
 use mathlib.Core.Bool.{Bool, false, cond, _||_}
 use lib.Dec.{leb, ltb}
+use Rattle.snapshot.specs.Refusals.{outside}
 use Rattle.snapshot.specs.Tally.{Job, scan, update}
 use Rattle.snapshot.specs.Demand.{Method, Result}
 use Rattle.snapshot.specs.Days as Days
-use Rattle.snapshot.specs.Days.{Machine, State, Item, outside}
+use Rattle.snapshot.specs.Days.{Machine, State, Item}
 use Rattle.unbounded.specs.declared.Process.{Process}
 use Rattle.unbounded.specs.declared.Task.{Task}
 use Rattle.unbounded.specs.declared.Task.the-variants.{Idle, Scan, Update, Ready}
 use Rattle.unbounded.specs.Registers.{value, Order, ascending}
-use Rattle.unbounded.specs.Processes.{noProcess, zeroProcess, isIdle, taskOf, begin}
+use Rattle.unbounded.specs.Processes.{noProcess, zeroProcess, isIdle, turnsOf, taskOf, begin}
 use Rattle.unbounded.specs.Turns.{reads, turned}
 
 -- ---- limits
@@ -27,6 +28,13 @@ readsUpTo8 n = cond (outside 1 8 n) 0 (mostReads n)
 abbrev pub mostTurns : ℕ → Job → ℕ
 mostTurns n scan = mostReads n
 mostTurns n (update register w) = mostReads n + 1
+
+-- the same by the task: "its greatest number of turns (2n² for a page, 2n²+1 for an entry)" (document 02, K2), most being 2n²
+abbrev pub greatest : (most : ℕ) → Task → ℕ
+greatest most Idle = 0
+greatest most (Scan t) = most
+greatest most (Update w t) = most + 1
+greatest most (Ready w at t) = most + 1
 
 -- "a task being read has had more than 2n²−1 turns, or an entry ready to write more than 2n²", most being 2n²
 abbrev pub overdue : ℕ → Task → Bool
@@ -49,6 +57,8 @@ figure3 o =
       noProcess = noProcess;
       zeroProcess = zeroProcess;
       isIdle = λ p. isIdle (p .task);
+      greatest = λ n p. greatest (mostReads n) (p .task);
+      turnsHad = λ p. turnsOf (p .task);
       unsound = λ n e p. unsound (mostReads n) e p;
       Value = ℕ;
       value = λ p. value (p .register);

@@ -1,10 +1,10 @@
 -- Refusals on chosen days (document 01, Reasons to refuse), as one list: each small example, each limit at its value and one past
 -- it, and the causes that can hold together, with the replies.
-use Prim.Native.Nat.{ℕ, _+_, _-_}
+use Prim.Native.Nat.{ℕ, _+_, _-_, _*_}
 use mathlib.Core.List.{List, [], _∷_, _++_}
 use lib.ListN.{replicate}
 use Rattle.snapshot.specs.Days.{State, Item, openFor, updateCall, scanCall, turnOf}
-use Rattle.snapshot.specs.Replies.{Reply, refused, opened, called, read, replies}
+use Rattle.snapshot.specs.Replies.{Reply, refused, opened, called, read, page, written, replies}
 use Rattle.unbounded.specs.declared.Process.{Process}
 use Rattle.unbounded.specs.declared.Task.{Task}
 use Rattle.unbounded.specs.declared.Task.the-variants.{Idle, Scan, Update, Ready}
@@ -71,9 +71,12 @@ allGet k s d = onDay s (bothCalls d ++ turnWith (s .day .count) d ∷ []) (repli
 abbrev accepted : State Process → ℕ → RefusedDay
 accepted s d = onDay s (scanCall d ∷ []) (called ∷ [])
 
--- an opening for k gets this reply
+-- one item gets this reply; and an opening for k does
+abbrev itemGets : Reply ℕ → State Process → Item → RefusedDay
+itemGets r s x = onDay s (x ∷ []) (r ∷ [])
+
 abbrev openGets : Reply ℕ → State Process → ℕ → RefusedDay
-openGets r s k = onDay s (openFor k ∷ []) (r ∷ [])
+openGets r s k = itemGets r s (openFor k)
 
 -- ---- each cause
 
@@ -109,15 +112,36 @@ idleProcess =
     ∷ onDay (dayAt 2 0 (lastIs 2 (doing (Scan 0)))) (turnWith 2 2 ∷ []) (read ∷ [])
     ∷ []
 
--- 5: "the event number is 65,535"; "event 65,536". Case I: "event 65,535 accepted, the next call or busy desk's turn gives 5, an
--- idle desk's turn 4"; event 65,535 is a call on the first day, a turn on the second
+-- 5 (K2): "the event number plus 1, plus all turns owed, plus the greatest number for the new task, exceeds 65,535", the greatest of a
+-- scan being most, and this table, in which process d is idle, owing so much: one below, at, and one above, for each job
+abbrev callLimits : (n most owed d : ℕ) → List Process → List RefusedDay
+callLimits n most owed d ps =
+    let last = 65534 - most - owed in
+    itemGets called (dayAt n (last - 1) ps) (scanCall d)
+    ∷ itemGets called (dayAt n last ps) (scanCall d)
+    ∷ itemGets (refused 5) (dayAt n (last + 1) ps) (scanCall d)
+    ∷ itemGets called (dayAt n (last - 2) ps) (updateCall d 7)
+    ∷ itemGets called (dayAt n (last - 1) ps) (updateCall d 7)
+    ∷ itemGets (refused 5) (dayAt n last ps) (updateCall d 7)
+    ∷ []
+
+-- three processes that wait, and owe 28, 124 and 1 of 128 turns, or 129
+abbrev threeWait : List Process
+threeWait = doing (Scan 100) ∷ doing (Update 7 5) ∷ doing (Ready 7 0 128) ∷ idleTable 5
+
+-- case I, "its call and its idle desk only": event 65,535, an answer, is accepted; the next call gives 5, an idle process's turn 4
+abbrev caseI : List RefusedDay
+caseI =
+    onDay (dayAt 1 65532 (idleTable 1)) (scanCall 1 ∷ turnWith 1 1 ∷ turnWith 1 1 ∷ bothCalls 1 ++ turnWith 1 1 ∷ [])
+    (called ∷ read ∷ page 0 65534 2 (0 ∷ []) ∷ refused 5 ∷ refused 5 ∷ refused 4 ∷ [])
+    ∷ onDay (dayAt 1 65531 (idleTable 1))
+    (updateCall 1 7 ∷ turnWith 1 1 ∷ turnWith 1 1 ∷ turnWith 1 1 ∷ bothCalls 1 ++ turnWith 1 1 ∷ [])
+    (called ∷ read ∷ read ∷ written 3 ∷ refused 5 ∷ refused 5 ∷ refused 4 ∷ [])
+    ∷ []
+
 abbrev dayFull : List RefusedDay
 dayFull =
-    onDay (dayAt 2 65534 (idleTable 2)) (scanCall 1 ∷ bothCalls 2 ++ turnWith 2 1 ∷ turnWith 2 2 ∷ [])
-    (called ∷ refused 5 ∷ refused 5 ∷ refused 5 ∷ refused 4 ∷ [])
-    ∷ onDay (dayAt 2 65534 (lastIs 2 (doing (Scan 0)))) (turnWith 2 2 ∷ turnWith 2 2 ∷ bothCalls 1 ++ turnWith 2 1 ∷ [])
-    (read ∷ refused 5 ∷ refused 5 ∷ refused 5 ∷ refused 4 ∷ [])
-    ∷ []
+    callLimits 1 2 0 1 (idleTable 1) ++ callLimits 8 128 0 8 (idleTable 8) ++ callLimits 8 128 (28 + 124 + 1) 8 threeWait ++ caseI
 
 -- 6: "the desk table has not exactly n records, or, on a turn, the page list has fewer than n words"; "n = 2, page list of 1 word"
 abbrev lentSize : List RefusedDay
@@ -167,6 +191,29 @@ turnLimits n most =
     ++ soundAccepted n 0 (doing (Ready 7 0 most))
     ++ unsoundGets11 n 0 (doing (Ready 7 0 (most + 1)))
 
+-- "also when event number plus all turns owed exceeds 65,535": process 1 of this table waits, the table owes so much, and its turn,
+-- where there is an event for all that is owed, gets this reply: one below, at, and one above
+abbrev endLimits : (n owed : ℕ) → List Process → Reply ℕ → List RefusedDay
+endLimits n owed ps r =
+    let last = 65535 - owed in
+    itemGets r (dayAt n (last - 1) ps) (turnWith n 1)
+    ∷ itemGets r (dayAt n last ps) (turnWith n 1)
+    ∷ allGet 11 (dayAt n (last + 1) ps) 1
+    ∷ allGet 11 (dayAt n (last + 1) ps) n
+    ∷ []
+
+-- each task that waits, alone; and three and eight at once
+abbrev owedLimits : List RefusedDay
+owedLimits =
+    endLimits 1 2 (doing (Scan 0) ∷ []) read
+    ++ endLimits 1 3 (doing (Update 7 0) ∷ []) read
+    ++ endLimits 1 1 (doing (Ready 7 0 2) ∷ []) (written 3)
+    ++ endLimits 8 28 (firstIs 8 (doing (Scan 100))) read
+    ++ endLimits 8 124 (firstIs 8 (doing (Update 7 5))) read
+    ++ endLimits 8 1 (firstIs 8 (doing (Ready 7 0 128))) (written 129)
+    ++ endLimits 8 (28 + 124 + 1) threeWait read
+    ++ endLimits 8 (8 * 128) (replicate 8 (doing (Scan 0))) read
+
 -- ---- two causes at once
 
 -- "Order for opening: 10, 1, 6"; an opening has no other cause, whatever the event number and the records are
@@ -190,6 +237,8 @@ order6 =
     ∷ onDay (dayAt 2 70000 (idleTable 2)) (turnWith 1 1 ∷ []) (refused 6 ∷ [])
     ∷ allGet 6 (dayAt 2 0 (idleTable 3)) 3
     ∷ onDay (dayAt 2 0 (idleTable 2)) (turnWith 1 1 ∷ turnWith 1 3 ∷ []) (refused 6 ∷ refused 6 ∷ [])
+    ∷ allGet 6 (dayAt 2 65528 (firstIs 3 (doing (Scan 0)))) 1
+    ∷ itemGets (refused 6) (dayAt 2 65528 (firstIs 2 (doing (Scan 0)))) (turnWith 1 1)
     ∷ []
 
 -- 11 before 2, 3, 4 and 5
@@ -199,6 +248,8 @@ order11 =
     ∷ callsGet 11 (dayAt 2 0 (firstIs 2 (doing (Scan 8)))) 1
     ∷ turnGets 11 (dayAt 2 5 (firstIs 2 (wrote 6 5))) 1
     ∷ allGet 11 (dayAt 2 65535 (firstIs 2 (doing (Scan 8)))) 2
+    ∷ allGet 11 (dayAt 2 65528 (firstIs 2 (doing (Scan 0)))) 0
+    ∷ allGet 11 (dayAt 2 65528 (firstIs 2 (doing (Scan 0)))) 3
     ∷ []
 
 -- 2 before 3, 4 and 5
@@ -209,12 +260,12 @@ order2 =
     ∷ allGet 2 (dayAt 2 65535 (idleTable 2)) 3
     ∷ []
 
--- 3 or 4 before 5
+-- 3 before 5, and 4 where a call would get 5
 abbrev order3 : List RefusedDay
-order3 = callsGet 3 (dayAt 2 65535 (firstIs 2 (doing (Scan 0)))) 1 ∷ turnGets 4 (dayAt 2 65535 (idleTable 2)) 1 ∷ []
+order3 = callsGet 3 (dayAt 2 65527 (firstIs 2 (doing (Scan 0)))) 1 ∷ turnGets 4 (dayAt 2 65535 (idleTable 2)) 1 ∷ []
 
 unfoldable pub refusedDays : List RefusedDay
 refusedDays =
     countRange ++ processRange 2 ++ processRange 8 ++ busyProcess ++ idleProcess ++ dayFull ++ lentSize ++ openState
-    ++ dayLimits ++ registerLimits ++ turnLimits 2 8 ++ turnLimits 8 128
+    ++ dayLimits ++ registerLimits ++ turnLimits 2 8 ++ turnLimits 8 128 ++ owedLimits
     ++ openingOrder ++ order10 ++ order6 ++ order11 ++ order2 ++ order3

@@ -32,10 +32,10 @@ pub struct Process {
 }
 
 // The most reads of a scan, for 1 to 8 processes.
-const MOST_READS: [u32; 8] = [2, 8, 18, 32, 50, 72, 98, 128];
+const MOST_READS: [u16; 8] = [2, 8, 18, 32, 50, 72, 98, 128];
 
 // The most reads of a scan by n processes, or 0 where n is not 1 to 8.
-pub fn most_reads(n: u32) -> u32
+pub fn most_reads(n: u32) -> u16
     ensures { λ r. ⌜ r ≡ readsUpTo8 n ⌝ }
 {
     if n < 1 {

@@ -1,2 +1,2 @@
--- That a look at every record finds what refusal 11 asks.
-pub mod Unsound
+-- That a look at every record finds what refusals 11 and 5 ask.
+pub mod Looks

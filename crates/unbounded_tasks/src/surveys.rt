@@ -1,5 +1,6 @@
-// Whether a record can have arisen: what a look at every record of a table finds, one record at a time.
+// Whether a record can have arisen, and what it owes: what a look at every record of a table finds, one record at a time.
 use admission::Survey;
+use admission::checks;
 use snapshot::Day;
 use unbounded::Process;
 use unbounded::Task;
@@ -7,16 +8,18 @@ use unbounded::most_reads;
 ghost use mathlib.Core.Path.{_≡_};
 ghost use mathlib.Core.Bool.{_||_};
 ghost use lib.Dec.{ltb};
-ghost use Rattle.unbounded.specs.Days.{overdue};
 ghost use Rattle.unbounded_tasks.specs.Surveys.{surveyOf, registerSeen, taskSeen, surveyedBy};
 
 // What is found before any record is looked at.
 pub fn survey_of(day: Day) -> Survey
     ensures { λ s. ⌜ s ≡ surveyOf day ⌝ }
 {
+    let most = most_reads(day.count);
     Survey {
-        most: most_reads(day.count),
+        scan_most: most,
+        update_most: most + 1,
         event: day.event,
+        end: day.event,
         bad: false,
     }
 }
@@ -34,8 +37,10 @@ pub fn register_seen(s: Survey, seq: u32, at: u32) -> Survey
     ensures { λ t. ⌜ t ≡ registerSeen s seq at ⌝ }
 {
     Survey {
-        most: s.most,
+        scan_most: s.scan_most,
+        update_most: s.update_most,
         event: s.event,
+        end: s.end,
         bad: bad_register(s, seq, at),
     }
 }
@@ -53,39 +58,18 @@ fn bad_register(s: Survey, seq: u32, at: u32) -> bool
     s.event < at
 }
 
-// Once a task is looked at.
+// Once a task is looked at. An update that is still being read owes its writing turn after its reads.
 pub fn task_seen(s: Survey, k: Task) -> Survey
     ensures { λ t. ⌜ t ≡ taskSeen s k ⌝ }
 {
-    Survey {
-        most: s.most,
-        event: s.event,
-        bad: bad_task(s, k),
-    }
-}
-
-// Whether something before was bad, or a task is overdue.
-fn bad_task(s: Survey, k: Task) -> bool
-    ensures { λ b. ⌜ b ≡ (s .bad || overdue (s .most) k) ⌝ }
-{
-    if is_overdue(s.most, k) {
-        return true;
-    }
-    s.bad
-}
-
-// Whether a task has had more turns than it can have.
-fn is_overdue(most: u32, k: Task) -> bool
-    ensures { λ b. ⌜ b ≡ overdue most k ⌝ }
-{
     match k {
-        Task::Idle => false,
-        Task::Scan { turns } => most <= turns,
-        Task::Update { word: _, turns } => most <= turns,
+        Task::Idle => s,
+        Task::Scan { turns } => checks::waits(s, s.scan_most, 0, turns),
+        Task::Update { word: _, turns } => checks::waits(s, s.scan_most, 1, turns),
         Task::Ready {
             word: _,
             at: _,
             turns,
-        } => most < turns,
+        } => checks::waits(s, s.update_most, 0, turns),
     }
 }

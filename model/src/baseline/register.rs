@@ -28,6 +28,12 @@ pub struct Day {
     pub event: u32,
 }
 
+/// The place of a desk's record in the table, and what all tasks owe.
+struct Found {
+    i: usize,
+    owed: u32,
+}
+
 /// A page as decided: its lender or 0, and its instant.
 struct Decided {
     from: usize,
@@ -59,11 +65,15 @@ impl Day {
     }
 
     fn call(&mut self, table: &mut [Desk], desk: u32, task: Task) -> Result<(), Refusal> {
-        let i = self.find(table, None, desk)?;
+        let Found { i, owed } = self.find(table, None, desk)?;
         if table[i].task != Task::Idle {
             return Err(Refusal::DeskBusy);
         }
-        if self.event == LAST_EVENT {
+        let greatest = match task {
+            Task::Page { .. } => most_reads(self.desks),
+            _ => most_reads(self.desks) + 1,
+        };
+        if self.event + 1 + owed + greatest > LAST_EVENT {
             return Err(Refusal::DayFull);
         }
         self.event += 1;
@@ -77,10 +87,9 @@ impl Day {
         desk: u32,
         page: &mut [u32],
     ) -> Result<Turn, Refusal> {
-        let i = self.find(table, Some(page.len()), desk)?;
+        let Found { i, .. } = self.find(table, Some(page.len()), desk)?;
         match table[i].task {
             Task::Idle => Err(Refusal::DeskIdle),
-            _ if self.event == LAST_EVENT => Err(Refusal::DayFull),
             Task::Ready { turns, word, at } => {
                 self.event += 1;
                 table[i].write(self.desks as usize, word, at);
@@ -141,9 +150,9 @@ impl Day {
         }
     }
 
-    /// The place of a desk's record in the table, or the first of 10, 6, 11 and 2 that is met.
-    /// A turn says how many words its page list has.
-    fn find(&self, table: &[Desk], words: Option<usize>, desk: u32) -> Result<usize, Refusal> {
+    /// The desk's record and all turns owed, or the first of 10, 6, 11 and 2 that is met. A turn says
+    /// how many words its page list has.
+    fn find(&self, table: &[Desk], words: Option<usize>, desk: u32) -> Result<Found, Refusal> {
         let n = self.desks as usize;
         if n == 0 {
             return Err(Refusal::OpenOrNot);
@@ -151,28 +160,33 @@ impl Day {
         if table.len() != n || words.is_some_and(|words| words < n) {
             return Err(Refusal::LentSize);
         }
-        if self.cannot_have_arisen(table) {
-            return Err(Refusal::CannotHaveArisen);
-        }
+        let owed = self.owed(table).ok_or(Refusal::CannotHaveArisen)?;
         if desk == 0 || desk as usize > n {
             return Err(Refusal::NoSuchDesk);
         }
-        Ok(desk as usize - 1)
+        Ok(Found { i: desk as usize - 1, owed })
     }
 
-    fn cannot_have_arisen(&self, table: &[Desk]) -> bool {
+    /// All turns owed, or nothing where the day cannot have arisen. Each record is looked at once.
+    fn owed(&self, table: &[Desk]) -> Option<u32> {
         if self.desks > PLACES as u32 || self.event > LAST_EVENT {
-            return true;
+            return None;
         }
         let most = most_reads(self.desks);
-        table.iter().any(|desk| {
-            let overrun = match desk.task {
-                Task::Idle => false,
-                Task::Page { turns } | Task::Entry { turns, .. } => turns > most - 1,
-                Task::Ready { turns, .. } => turns > most,
+        let mut owed = 0;
+        for desk in table {
+            if desk.row.seq > self.event || desk.row.at > self.event {
+                return None;
+            }
+            owed += match desk.task {
+                Task::Idle => 0,
+                Task::Page { turns } if turns < most => most - turns,
+                Task::Entry { turns, .. } if turns < most => most + 1 - turns,
+                Task::Ready { turns, .. } if turns <= most => most + 1 - turns,
+                _ => return None,
             };
-            desk.row.seq > self.event || desk.row.at > self.event || overrun
-        })
+        }
+        (self.event + owed <= LAST_EVENT).then_some(owed)
     }
 }
 

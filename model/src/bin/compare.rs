@@ -1,9 +1,11 @@
 //! Runs another day runner and the model on the same day files and compares what they print, line
-//! by line: the papers' days, damaged and long files, full days and random days.
+//! by line: the papers' days, damaged and long files, full days, random days and random ends of days.
+//! On every day the model's own outcomes are held to what K2 says of its end.
 
+use model::closing::{Closing, Ends};
 use model::comparison::{self, bytes, Checked, Comparison, Drawn, Model};
 use model::counts::{Counts, Reached};
-use model::days::random_day;
+use model::days::{closing_day, random_day};
 use model::papers::{self, CASES, ENDINGS};
 use model::runner;
 use std::error::Error;
@@ -11,10 +13,12 @@ use std::mem;
 use std::process::ExitCode;
 
 const RANDOM: Drawn = Drawn { name: "random", make: random_day, fixed: 4_000, fresh: 200 };
+const CLOSING: Drawn = Drawn { name: "closing", make: closing_day, fixed: 240, fresh: 48 };
 
 #[derive(Default)]
 struct Runner {
     counts: Counts,
+    ends: Ends,
 }
 
 impl Model for Runner {
@@ -23,9 +27,15 @@ impl Model for Runner {
     }
 
     fn watched(&mut self, file: &[u8]) -> Result<String, Box<dyn Error>> {
-        Ok(runner::run_watched(file, |record, outcome, register| {
-            self.counts.watch(record, outcome, register)
-        }))
+        let (mut closing, mut held) = (Closing::default(), Ok(()));
+        let printed = runner::run_watched(file, |record, outcome, register| {
+            self.counts.watch(record, outcome, register);
+            if held.is_ok() {
+                held = closing.watch(record, outcome, &mut self.ends);
+            }
+        });
+        held?;
+        Ok(printed)
     }
 
     /// After a read that failed there is no end.
@@ -44,7 +54,11 @@ fn run(comparison: &mut Comparison<Runner>, seed: u64) -> Checked {
     comparison.special()?;
     let special = mem::take(&mut comparison.model.counts);
     comparison.drawn(&RANDOM, seed)?;
-    comparison.require(reached(&comparison.model.counts, &special))
+    let random = mem::take(&mut comparison.model.counts);
+    comparison.drawn(&CLOSING, seed)?;
+    let mut reached = reached(&random, &special);
+    comparison.model.ends.add_to(&mut reached);
+    comparison.require(reached)
 }
 
 /// What has to be reached, in random days and in `special` ones.
@@ -58,7 +72,6 @@ fn reached(random: &Counts, special: &Counts) -> Reached {
     reached.add("refusals 1 to 4", &random.refusals[1..=4]);
     reached.add("refusals 7 to 10", &random.refusals[7..=10]);
     reached.add("calls after the last event, refused 5", &[special.full_call]);
-    reached.add("busy desks' turns after the last event, refused 5", &[special.full_busy]);
     reached.add("idle desks' turns after the last event, refused 4", &[special.full_idle]);
     reached
 }

@@ -1,6 +1,6 @@
 //! Runs another maker of books and the model on the same day files and compares the books, line by
-//! line: the papers' days, damaged and long files, full days and random days. On every day the model's
-//! own book is held to what K1 says of books.
+//! line: the papers' days, damaged and long files, full days, random days and random ends of days. On
+//! every day the model's own book is held to what K1 says of books.
 
 use model::book::{self, History, MOST_BYTES};
 use model::book_counts::BookCounts;
@@ -13,6 +13,7 @@ use std::process::ExitCode;
 
 const RANDOM: Drawn = Drawn { name: "random", make: days::random_day, fixed: 2_000, fresh: 100 };
 const LENDING: Drawn = Drawn { name: "lending", make: days::lending_day, fixed: 2_000, fresh: 100 };
+const CLOSING: Drawn = Drawn { name: "closing", make: days::closing_day, fixed: 48, fresh: 8 };
 
 #[derive(Default)]
 struct Books {
@@ -49,6 +50,7 @@ fn run(comparison: &mut Comparison<Books>, seed: u64) -> Checked {
     lengths(comparison)?;
     comparison.drawn(&RANDOM, seed)?;
     comparison.drawn(&LENDING, seed)?;
+    comparison.drawn(&CLOSING, seed)?;
     comparison.require(comparison.model.counts.reached())
 }
 
@@ -86,7 +88,7 @@ fn full_days(comparison: &mut Comparison<Books>) -> Checked {
 /// Files that are just not too long, with a day at their beginning, at their end, or before a record
 /// that ends them; and files that are too long.
 fn lengths(comparison: &mut Comparison<Books>) -> Checked {
-    let day = days::full_day(3, true, 3);
+    let day = days::full_day(3, 3);
     let ending = vec![4, 0, 9, 0, 1, 0];
     let rest = days::refused_records(MOST_BYTES - day.len());
     let less = days::refused_records(MOST_BYTES - day.len() - ending.len());

@@ -3,7 +3,7 @@
 use super::{bytes, Checked, Comparison, Model};
 use crate::counts::Reached;
 use crate::dayfile::{self, Record};
-use crate::days::{full_day, long_file};
+use crate::days::{full_day, last_day, long_file};
 
 /// Every kind of record and of answer, short enough to cut and damage at every byte.
 pub const SMALL: &str =
@@ -128,9 +128,9 @@ impl<M: Model> Comparison<M> {
     }
 
     pub(super) fn full_days(&mut self) -> Checked {
-        self.check("a full day, its one desk idle", &full_day(1, false, 1))?;
         for n in 1..=8 {
-            self.check(&format!("a full day for {n}"), &full_day(n, true, n.into()))?;
+            self.check(&format!("a full day for {n}"), &full_day(n, n.into()))?;
+            self.check(&format!("a day for {n} up to the last event"), &last_day(n))?;
         }
         Ok(())
     }

@@ -1,7 +1,6 @@
 //! Days in which several desks borrow the page of one entry, and end late and in any order.
 
 use super::Draft;
-use crate::dayfile::Record;
 use crate::register::LAST_EVENT;
 
 /// Such a day of some hundred records, the same for the same seed; one in six is damaged.
@@ -19,8 +18,7 @@ pub fn lending_day(seed: u64) -> Vec<u8> {
 /// A nearly full day for n desks, at whose end the others' pages are answered that they borrow from
 /// desk 1 near its beginning.
 pub fn latest_day(n: u16) -> Vec<u8> {
-    let mut draft = Draft::new(n.into());
-    draft.give(Record::Open { desks: n });
+    let mut draft = Draft::opened(n, n.into());
     draft.lend_to(1, (2..=n).collect(), Vec::new(), LAST_EVENT - 2_000);
     draft.file
 }
@@ -59,15 +57,6 @@ impl Draft {
         for reader in readers {
             self.finish(reader);
             self.work(&others);
-        }
-    }
-
-    /// Some reads of each desk, mixed.
-    fn collect(&mut self, desks: &[u16], reads: usize) {
-        let mut turns = desks.repeat(reads);
-        self.random.shuffle(&mut turns);
-        for desk in turns {
-            self.turn(desk);
         }
     }
 

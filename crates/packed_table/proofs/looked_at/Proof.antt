@@ -1,8 +1,9 @@
 -- `packed_table::looked_at` meets its contract.
 use mathlib.Core.Path.{ap, _∙_}
-use Rattle.unbounded_tasks.specs.Surveys.{registerSeen, taskSeen}
-use Rattle.unbounded_tasks.proofs.Unsound.{task-first}
-use Rattle.packed.specs.Packing.{unpackRecord}
+use Rattle.unbounded_tasks.specs.Surveys.{registerSeen, taskSeen, surveyedBy}
+use Rattle.unbounded_tasks.proofs.Looks.{task-first}
+use lib.ListN.{drop}
+use Rattle.packed.specs.Packing.{unpackTask, unpackRecord}
 use borrow.Author.Needs.{needs}
 use Rattle.packed_table.proofs.looked_at.Statement.{statement}
 use Rattle.packed_table.proofs.looked_at.Tie as tie
@@ -23,14 +24,14 @@ register-seen-requires : tie.Need-register-seen-requires
 register-seen-requires c κs = search needs
 
 returns : tie.Need-returns
-unfolding unpackRecord
+unfolding unpackRecord surveyedBy
 returns c =
     let at-task = c .before .before .before in
     let a = at-task .before .before .args in
     let found = at-task .task-seen .ensures ∙ ap (taskSeen (a .s)) (at-task .before .task-in .ensures) in
     c .register-seen .ensures
     ∙ (λ i. registerSeen (found i) (c .before .before .seq-in .ensures i) (c .before .at-in .ensures i))
-    ∙ task-first (a .s) (unpackRecord (a .w .now))
+    ∙ task-first (a .s) (unpackTask (drop 11 (a .w .now))) _ _
 
 pub looked-at-spec : {M : Type 1} → statement M
 looked-at-spec =

@@ -57,16 +57,42 @@ pub fn page_list(random: &mut Random, least: usize) -> Vec<u32> {
     (0..words).map(|_| number(random)).collect()
 }
 
-/// A day for n desks and records that are not refused with 11, rubbish as they are.
+/// A day for n desks and records that are not refused with 11, rubbish as they are. Often nobody waits,
+/// or only one desk may.
 fn accepted(random: &mut Random, n: usize) -> State {
-    let event = match random.below(8) {
-        0 => LAST_EVENT - random.below(4) as u32,
-        1 => random.below(LAST_EVENT as usize + 1) as u32,
-        _ => random.below(60) as u32,
+    let one = random.below(n);
+    let waiting = match random.below(8) {
+        0 => 0..0,
+        1 | 2 => one..one + 1,
+        _ => 0..n,
     };
-    let rows: Vec<[u32; ROW_WORDS]> = (0..n).map(|_| row(random, event)).collect();
-    let table = (0..n).map(|own| record(random, own, &rows)).collect();
-    State { count: n as u32, event, table, page: page_list(random, n) }
+    let table = (0..n).map(|own| task(random, n as u32, waiting.contains(&own))).collect();
+    let mut state = State { count: n as u32, event: 0, table, page: page_list(random, n) };
+    if waiting.len() == 1 && random.once_in(2) {
+        // The last turn of all that are owed.
+        (state.table[one][KIND], state.table[one][TURNS]) = match random.below(2) {
+            0 => (PAGE, most_reads(state.count) - 1),
+            _ => (READY, most_reads(state.count)),
+        };
+    }
+    state.event = event(random, &state);
+    let rows: Vec<[u32; ROW_WORDS]> = (0..n).map(|_| row(random, state.event)).collect();
+    for (own, words) in state.table.iter_mut().enumerate() {
+        record(random, own, &rows, words);
+    }
+    state
+}
+
+/// Some event number for the tasks of a state: often one of the last that there can be, or one at
+/// which a call is just taken or just not.
+fn event(random: &mut Random, state: &State) -> u32 {
+    let last = LAST_EVENT - state.owed() as u32;
+    match random.below(8) {
+        0 | 1 => last - random.below(2) as u32,
+        2..=4 => last - most_reads(state.count) - random.below(3) as u32,
+        5 => random.below(last as usize + 1) as u32,
+        _ => random.below(60) as u32,
+    }
 }
 
 /// A number up to the event number, often the event number itself.
@@ -89,10 +115,9 @@ fn rubbish_row(random: &mut Random) -> [u32; ROW_WORDS] {
     std::array::from_fn(|_| number(random))
 }
 
-fn record(random: &mut Random, own: usize, rows: &[[u32; ROW_WORDS]]) -> Words {
-    let mut words: Words = std::array::from_fn(|_| number(random));
+/// Puts the rows of a day in a record: its own, and those that it has read.
+fn record(random: &mut Random, own: usize, rows: &[[u32; ROW_WORDS]], words: &mut Words) {
     words[..ROW_WORDS].copy_from_slice(&rows[own]);
-    task(random, rows.len() as u32, &mut words);
     for (j, row) in rows.iter().enumerate() {
         words[place(FIRST, j)..][..ROW_WORDS].copy_from_slice(row);
         words[place(SECOND, j)..][..ROW_WORDS].copy_from_slice(row);
@@ -102,24 +127,25 @@ fn record(random: &mut Random, own: usize, rows: &[[u32; ROW_WORDS]]) -> Words {
         0 | 1 => {}
         2 => {
             let j = random.below(rows.len());
-            stir(random, j, &mut words);
+            stir(random, j, words);
         }
-        3 => stir(random, rows.len() - 1, &mut words),
-        _ => (0..rows.len()).for_each(|j| stir(random, j, &mut words)),
+        3 => stir(random, rows.len() - 1, words),
+        _ => (0..rows.len()).for_each(|j| stir(random, j, words)),
     }
     for j in 0..rows.len() {
         past_n(random, rows.len(), &mut words[place(FIRST, j)..]);
         past_n(random, rows.len(), &mut words[place(SECOND, j)..]);
     }
-    marks(random, rows.len(), &mut words);
-    words
+    marks(random, rows.len(), words);
 }
 
-/// Some task with a number of turns that it can have had, often at the end of a double collect. The
-/// words that it does not have are rubbish, or 0.
-fn task(random: &mut Random, n: u32, words: &mut Words) {
+/// A record of rubbish with a task, which is idle or may wait, and a number of turns that it can have
+/// had, often at the end of a double collect. The words that it does not have are rubbish, or 0.
+fn task(random: &mut Random, n: u32, waiting: bool) -> Words {
+    let mut words: Words = std::array::from_fn(|_| number(random));
     let most = most_reads(n);
-    words[KIND] = random.pick(&[IDLE, PAGE, PAGE, ENTRY, ENTRY, READY]);
+    let kinds = [IDLE, PAGE, PAGE, ENTRY, ENTRY, READY];
+    words[KIND] = if waiting { random.pick(&kinds) } else { IDLE };
     words[TURNS] = match random.below(4) {
         0 => most - 1,
         1 => 2 * n * (1 + random.below(n as usize) as u32) - 1 - random.below(2) as u32,
@@ -134,6 +160,7 @@ fn task(random: &mut Random, n: u32, words: &mut Words) {
             words[TURNS] = 0;
         }
     }
+    words
 }
 
 /// Puts another row in place j of a collect, or the same with another seq.
@@ -170,7 +197,7 @@ fn marks(random: &mut Random, n: usize, words: &mut Words) {
 /// Damages a state in one way.
 pub fn wound(random: &mut Random, state: &mut State) {
     let n = state.count as usize;
-    match random.below(14) {
+    match random.below(15) {
         0 => state.event = LAST_EVENT + 1 + random.below(3) as u32,
         1 => state.event = number(random),
         2 => {
@@ -193,6 +220,8 @@ pub fn wound(random: &mut Random, state: &mut State) {
                 wound_record(random, state);
             }
         }
+        // More turns are owed than the day has numbers for.
+        8 => state.event = LAST_EVENT + 1 - state.owed() as u32 + random.pick(&[0, 0, 0, 1, 2]),
         _ => wound_record(random, state),
     }
 }

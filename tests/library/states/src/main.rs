@@ -17,7 +17,7 @@ use states::{bytes, requests};
 use std::process::ExitCode;
 use std::time::Instant;
 
-const STATES: u64 = 30_000;
+const STATES: u64 = 40_000;
 const SEED: u64 = 1;
 
 /// One state in so many is a day grown from an opening.

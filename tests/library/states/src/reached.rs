@@ -6,6 +6,8 @@ use model::counts::Reached;
 use model::register::{most_reads, LAST_EVENT, PLACES};
 use std::collections::BTreeMap;
 
+const LAST: u64 = LAST_EVENT as u64;
+
 /// Counts above this stand in one column.
 const LAST_COLUMN: usize = 12;
 
@@ -52,8 +54,19 @@ const REQUIRED: &[(&str, usize, usize)] = &[
     ("refusal 3", 1, 8),
     ("refusal 4", 1, 8),
     ("refusal 4 after the last event", 1, 8),
-    ("refusal 5 of a call", 1, 8),
-    ("refusal 5 of a turn", 1, 8),
+    ("page calls just taken, nobody waiting", 1, 8),
+    ("page calls just taken, others waiting", 2, 8),
+    ("entry calls just taken, nobody waiting", 1, 8),
+    ("entry calls just taken, others waiting", 2, 8),
+    ("page calls refused 5 for want of one event, nobody waiting", 1, 8),
+    ("page calls refused 5 for want of one event, others waiting", 2, 8),
+    ("entry calls refused 5 for want of one event, nobody waiting", 1, 8),
+    ("entry calls refused 5 for want of one event, others waiting", 2, 8),
+    ("refusal 5", 1, 8),
+    ("calls refused 5 where event number and turns owed are 65,535", 2, 8),
+    ("turns accepted where they are 65,535", 1, 8),
+    ("turns refused 11 where they are 65,536 alone", 1, 8),
+    ("calls refused 11 where they are 65,536 alone", 1, 8),
     ("refusal 6 of an opening by the table", 1, 8),
     ("refusal 6 by the table", 1, 12),
     ("refusal 6 by the page list", 1, 12),
@@ -68,6 +81,7 @@ const REQUIRED: &[(&str, usize, usize)] = &[
     (PAGE_BEYOND, 1, 8),
     (ENTRY_BEYOND, 1, 8),
     (READY_BEYOND, 1, 8),
+    (OWED_ABOVE, 1, 8),
     (UNKNOWN_TASK, 1, 8),
     ("calls refused with 11 for an unknown task kind alone", 1, 8),
     ("turns refused with 11 for an unknown task kind alone", 1, 8),
@@ -86,6 +100,7 @@ const AT_ABOVE: &str = "refusal 11 alone by an at above the event number";
 const PAGE_BEYOND: &str = "refusal 11 alone by a page's turns beyond 2n²-1";
 const ENTRY_BEYOND: &str = "refusal 11 alone by an entry's turns beyond 2n²-1";
 const READY_BEYOND: &str = "refusal 11 alone by a ready entry's turns beyond 2n²";
+const OWED_ABOVE: &str = "refusal 11 alone by event number and turns owed above 65,535";
 const UNKNOWN_TASK: &str = "refusal 11 alone by an unknown task kind";
 
 /// What the reader must have met.
@@ -164,8 +179,7 @@ impl Counts {
             3 => "refusal 3",
             4 if before.event == LAST_EVENT => "refusal 4 after the last event",
             4 => "refusal 4",
-            5 if request.kind == TURN => "refusal 5 of a turn",
-            5 => "refusal 5 of a call",
+            5 => "refusal 5",
             6 if opening => "refusal 6 of an opening by the table",
             6 if before.table.len() == n => "refusal 6 by the page list",
             6 => "refusal 6 by the table",
@@ -175,10 +189,36 @@ impl Counts {
             _ => "refusal 11",
         };
         self.add(name, if opening && refusal == 6 { request.process as usize } else { n });
-        if refusal == 11 {
-            if let [cause] = causes(before).as_slice() {
-                self.add(cause, n);
-            }
+        match refusal {
+            5 => self.full(before, request),
+            11 => self.cannot_have_arisen(before, request),
+            _ => {}
+        }
+    }
+
+    /// A call that is refused with 5.
+    fn full(&mut self, before: &State, request: Request) {
+        let n = before.count as usize;
+        let name = match (request.kind == PAGE_CALL, before.owed() == 0) {
+            (true, true) => "page calls refused 5 for want of one event, nobody waiting",
+            (true, false) => "page calls refused 5 for want of one event, others waiting",
+            (false, true) => "entry calls refused 5 for want of one event, nobody waiting",
+            (false, false) => "entry calls refused 5 for want of one event, others waiting",
+        };
+        self.add_if(call_needs(before, request) == LAST + 1, name, n);
+        let owed = before.owed() > 0 && work_needs(before) == LAST;
+        self.add_if(owed, "calls refused 5 where event number and turns owed are 65,535", n);
+    }
+
+    /// A call or a turn that is refused with 11.
+    fn cannot_have_arisen(&mut self, before: &State, request: Request) {
+        let n = before.count as usize;
+        if let [cause] = causes(before).as_slice() {
+            self.add(cause, n);
+            let just = *cause == OWED_ABOVE && work_needs(before) == LAST + 1;
+            let turn = request.kind == TURN;
+            self.add_if(just && !turn, "calls refused 11 where they are 65,536 alone", n);
+            self.add_if(just && turn, "turns refused 11 where they are 65,536 alone", n);
         }
     }
 
@@ -209,6 +249,13 @@ impl Counts {
         let n = before.count as usize;
         self.add_if(request.kind == ENTRY_CALL, "entry calls", n);
         self.add_if(request.kind == PAGE_CALL, "page calls", n);
+        let just = match (request.kind == PAGE_CALL, before.owed() == 0) {
+            (true, true) => "page calls just taken, nobody waiting",
+            (true, false) => "page calls just taken, others waiting",
+            (false, true) => "entry calls just taken, nobody waiting",
+            (false, false) => "entry calls just taken, others waiting",
+        };
+        self.add_if(call_needs(before, request) == LAST, just, n);
         self.accepted(before, request, outcome);
         self.cleared(before, request);
     }
@@ -245,6 +292,8 @@ impl Counts {
     }
 
     fn turned(&mut self, before: &State, request: Request, outcome: &Outcome) {
+        let n = before.count as usize;
+        self.add_if(work_needs(before) == LAST, "turns accepted where they are 65,535", n);
         self.accepted(before, request, outcome);
         match outcome.reply.kind {
             READ => self.read(before, request, outcome),
@@ -337,6 +386,17 @@ impl Counts {
     }
 }
 
+/// The last event number that all work under way can need.
+fn work_needs(state: &State) -> u64 {
+    u64::from(state.event) + state.owed()
+}
+
+/// The last one with a further call.
+fn call_needs(state: &State, request: Request) -> u64 {
+    let entry = u64::from(request.kind == ENTRY_CALL);
+    work_needs(state) + 1 + u64::from(most_reads(state.count)) + entry
+}
+
 /// Whether a record has words that are not of its task.
 fn strange(words: &Words) -> bool {
     let (word, at, turns) = (words[TASK_WORD] != 0, words[TASK_AT] != 0, words[TURNS] != 0);
@@ -363,6 +423,8 @@ fn causes(state: &State) -> Vec<&'static str> {
         (any(&|words| turns(words, PAGE, most - 1)), PAGE_BEYOND),
         (any(&|words| turns(words, ENTRY, most - 1)), ENTRY_BEYOND),
         (any(&|words| turns(words, READY, most)), READY_BEYOND),
+        // An event number above 65,535 is a cause of its own.
+        (state.event <= LAST_EVENT && work_needs(state) > LAST, OWED_ABOVE),
         (any(&|words| words[KIND] > READY), UNKNOWN_TASK),
     ];
     parts.iter().filter(|part| part.0).map(|part| part.1).collect()

@@ -56,7 +56,7 @@ pub fn unpack(words: &Words) -> Option<Desk> {
 }
 
 /// "Words 12, 13 (and 14) that a kind does not have are ignored."
-fn unpack_task(words: &Words) -> Option<Task> {
+pub fn unpack_task(words: &Words) -> Option<Task> {
     let (word, at, turns) = (words[TASK_WORD], words[TASK_AT], words[TURNS]);
     match words[KIND] {
         IDLE => Some(Task::Idle),

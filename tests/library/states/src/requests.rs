@@ -4,7 +4,7 @@ use crate::damage::number;
 use crate::record::{IDLE, KIND};
 use crate::state::*;
 use model::random::Random;
-use model::register::{LAST_EVENT, PLACES};
+use model::register::{most_reads, LAST_EVENT, PLACES};
 
 /// What is asked of a state next. The favourite desk, which may be none, gets most of the turns.
 pub fn next(random: &mut Random, state: &State, favourite: u32) -> Request {
@@ -14,10 +14,7 @@ pub fn next(random: &mut Random, state: &State, favourite: u32) -> Request {
     if state.count == 0 || random.once_in(40) {
         return opening(random, state);
     }
-    let process = match random.below(8) {
-        0..=4 => favourite,
-        _ => 1 + random.below(state.count.min(PLACES as u32) as usize) as u32,
-    };
+    let process = desk(random, state, favourite);
     let kind = state.table.get(process.wrapping_sub(1) as usize).map_or(IDLE, |words| words[KIND]);
     let contrary = if state.event == LAST_EVENT { 3 } else { 16 };
     let call = (kind == IDLE) != random.once_in(contrary);
@@ -27,6 +24,25 @@ pub fn next(random: &mut Random, state: &State, favourite: u32) -> Request {
         (true, true) => PAGE_CALL,
     };
     Request { kind, process, word: number(random) }
+}
+
+/// Some desk, most often the favourite. Where a call may just be taken or just not, a desk that waits
+/// is as likely as one that is idle.
+fn desk(random: &mut Random, state: &State, favourite: u32) -> u32 {
+    let n = state.count.min(PLACES as u32);
+    let needed = u64::from(state.event) + state.owed() + u64::from(most_reads(n)) + 4;
+    if needed > u64::from(LAST_EVENT) && random.once_in(2) {
+        let idle = random.once_in(2);
+        let desks = (1..=n).zip(&state.table).filter(|(_, words)| (words[KIND] == IDLE) == idle);
+        let desks: Vec<u32> = desks.map(|(desk, _)| desk).collect();
+        if !desks.is_empty() {
+            return random.pick(&desks);
+        }
+    }
+    match random.below(8) {
+        0..=4 => favourite,
+        _ => 1 + random.below(n as usize) as u32,
+    }
 }
 
 /// Any request, of a kind that there is or not, by a desk that there is or not.

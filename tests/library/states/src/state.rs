@@ -1,6 +1,7 @@
 //! What is lent to the library and what it answers.
 
-use crate::record::Words;
+use crate::record::{unpack_task, Words};
+use model::register::PLACES;
 
 /// A day, its table and a page list. Any words may stand in it.
 #[derive(Clone, Debug, Default, PartialEq, Eq)]
@@ -9,6 +10,15 @@ pub struct State {
     pub event: u32,
     pub table: Vec<Words>,
     pub page: Vec<u32>,
+}
+
+impl State {
+    /// "all turns owed", for at most eight desks. A task of a kind that is none owes nothing.
+    pub fn owed(&self) -> u64 {
+        let n = self.count.min(PLACES as u32);
+        let tasks = self.table.iter().filter_map(unpack_task);
+        tasks.map(|task| u64::from(task.owed(n))).sum()
+    }
 }
 
 /// "kind of a request: 1 opening (process = the desk count asked for), 2 entry, 3 page call, 4 turn,

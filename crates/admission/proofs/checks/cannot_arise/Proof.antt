@@ -1,5 +1,6 @@
 -- `admission::checks::cannot_arise` meets its contract.
 use borrow.Author.Tests.{lt-ltb, le-ltb}
+use Rattle.snapshot.specs.Refusals.{isPast}
 use Rattle.admission.proofs.checks.cannot_arise.Statement.{statement}
 use Rattle.admission.proofs.checks.cannot_arise.Tie as tie
 
@@ -7,9 +8,11 @@ returns : tie.Need-returns
 returns c = simp (lt-ltb _ _ (c .if1 .taken))
 
 returns-2 : tie.Need-returns-2
+unfolding isPast
 returns-2 c = simp (le-ltb _ _ (c .before .before .if1 .left), lt-ltb _ _ (c .if2 .taken))
 
 returns-3 : tie.Need-returns-3
+unfolding isPast
 returns-3 c = simp (le-ltb _ _ (c .before .before .if1 .left), le-ltb _ _ (c .if2 .left))
 
 pub cannot-arise-spec : {M : Type 1} → statement M

@@ -11,7 +11,7 @@ returns-2 : tie.Need-returns-2
 returns-2 c = simp (c .before .before .if1 .left, lt-ltb _ _ (c .if2 .taken))
 
 returns-3 : tie.Need-returns-3
-returns-3 c = simp (c .before .before .before .if1 .left, le-ltb _ _ (c .before .if2 .left))
+returns-3 c = rw (c .before .before .before .if1 .left, le-ltb _ _ (c .before .if2 .left))
 
 pub bad-register-spec : {M : Type 1} → statement M
 bad-register-spec = tie.close (tie.spec returns returns-2 returns-3)

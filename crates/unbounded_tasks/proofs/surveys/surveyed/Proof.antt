@@ -1,7 +1,6 @@
 -- `unbounded_tasks::surveys::surveyed` meets its contract.
 use mathlib.Core.Path.{ap, _∙_}
-use Rattle.unbounded_tasks.specs.Surveys.{taskSeen}
-use Rattle.unbounded_tasks.proofs.Unsound.{parts-seen}
+use Rattle.unbounded_tasks.specs.Surveys.{taskSeen, surveyedBy}
 use borrow.Author.Needs.{needs}
 use Rattle.unbounded_tasks.proofs.surveys.surveyed.Statement.{statement}
 use Rattle.unbounded_tasks.proofs.surveys.surveyed.Tie as tie
@@ -13,9 +12,9 @@ task-seen-requires : tie.Need-task-seen-requires
 task-seen-requires c κs = search needs
 
 returns : tie.Need-returns
+unfolding surveyedBy
 returns c =
-    let a = c .before .before .args in
-    c .task-seen .ensures ∙ ap (λ s. taskSeen s (a .p .task)) (c .before .register-seen .ensures) ∙ parts-seen (a .s) (a .p)
+    c .task-seen .ensures ∙ ap (λ s. taskSeen s (c .before .before .args .p .task)) (c .before .register-seen .ensures)
 
 pub surveyed-spec : {M : Type 1} → statement M
 surveyed-spec = tie.close (tie.spec register-seen-requires task-seen-requires returns)
