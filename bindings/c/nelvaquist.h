@@ -41,7 +41,8 @@
 extern "C" {
 #endif
 
-/* Changes whenever anything else here does. Tables are kept for one version. */
+/* Changes whenever a function, a parameter or the layout of a struct here does. Tables are kept for one
+ * version. */
 #define NQ_VERSION 1
 
 #define NQ_MOST_DESKS 8

@@ -50,7 +50,7 @@ module _ {A : Type 0} (f : A → ℕ) where
 -- ends by
 pub record Surveyed (M : Machine) (s : State (M .Process)) (v : Survey) : Type 0 where
   pub scans : v .«scan_most» ≡ M .most (s .day .count) scan
-  pub updates : (d w : ℕ) → v .«update_most» ≡ M .most (s .day .count) (update d w)
+  pub updates : (d w : ℕ) → v .«scan_most» + v .«update_more» ≡ M .most (s .day .count) (update d w)
   pub sound : v .bad ≡ someUnsound M s
   pub ends : someUnsound M s ≡ false → v .end ≡ endOf (processOwes M (s .day .count)) (s .day .event) (s .table)
 

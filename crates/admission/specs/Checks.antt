@@ -45,7 +45,7 @@ endWith end owed = cond (isPast end) end (end + owed)
 -- s, with this event that all work ends by, and bad or not
 abbrev pub surveyWith : Survey → (end : ℕ) → (bad : Bool) → Survey
 surveyWith s end bad =
-    record { «scan_most» = s .«scan_most»; «update_most» = s .«update_most»; event = s .event; end = end; bad = bad }
+    record { «scan_most» = s .«scan_most»; «update_more» = s .«update_more»; event = s .event; end = end; bad = bad }
 
 -- once a task is looked at too that cannot have had most turns (11): until then it owes what is left of these, and more after them
 abbrev pub waitsBy : Survey → (most more turns : ℕ) → Survey
@@ -65,7 +65,7 @@ firstCauses day size short end bad d =
 -- K2: "the greatest number for the new task" (an opening and a turn, of which it is not asked, count as scans)
 abbrev pub mostFor : Survey → Request → ℕ
 mostFor s (Open k) = s .«scan_most»
-mostFor s (Update d w) = s .«update_most»
+mostFor s (Update d w) = s .«scan_most» + s .«update_more»
 mostFor s (Scan d) = s .«scan_most»
 mostFor s (Turn d) = s .«scan_most»
 

@@ -37,7 +37,7 @@ fn is_outside(low: u32, high: u32, k: u32) -> bool
 
 // The event number plus what was owed so far, and what one task more owes.
 fn end_with(sum: u32, owed: u32) -> u32
-    requires { ⌜ owed ≤ 131070 ⌝ }
+    requires { ⌜ owed ≤ 196605 ⌝ }
     ensures { λ r. ⌜ r ≡ endWith sum owed ⌝ }
 {
     if 65535 < sum {
@@ -47,22 +47,23 @@ fn end_with(sum: u32, owed: u32) -> u32
 }
 
 // What is found once a task is looked at too that cannot have had `most` turns: until then it owes these, and `more` after them.
-pub fn waits(s: Survey, most: u16, more: u16, turns: u32) -> Survey
+pub fn waits(s: Survey, most: u32, more: u32, turns: u32) -> Survey
+    requires { ⌜ (most ≤ 131070) × (more ≤ 65535) ⌝ }
     ensures { λ t. ⌜ t ≡ waitsBy s most more turns ⌝ }
 {
-    if most as u32 <= turns {
+    if most <= turns {
         return Survey {
             scan_most: s.scan_most,
-            update_most: s.update_most,
+            update_more: s.update_more,
             event: s.event,
             end: s.end,
             bad: true,
         };
     }
-    let owed = most as u32 - turns + more as u32;
+    let owed = most - turns + more;
     Survey {
         scan_most: s.scan_most,
-        update_most: s.update_most,
+        update_more: s.update_more,
         event: s.event,
         end: end_with(s.end, owed),
         bad: s.bad,
@@ -83,28 +84,30 @@ fn cannot_arise(count: u32, s: Survey) -> bool
 }
 
 // The most turns of the task that a call sets.
-fn most_for(s: Survey, x: Request) -> u16
+fn most_for(s: Survey, x: Request) -> u32
     ensures { λ r. ⌜ r ≡ mostFor s x ⌝ }
+    ensures { λ r. ⌜ r ≤ 131070 ⌝ }
 {
     match x {
-        Request::Open(_) => s.scan_most,
+        Request::Open(_) => s.scan_most as u32,
         Request::Update {
             process: _,
             word: _,
-        } => s.update_most,
-        Request::Scan(_) => s.scan_most,
-        Request::Turn(_) => s.scan_most,
+        } => s.scan_most as u32 + s.update_more as u32,
+        Request::Scan(_) => s.scan_most as u32,
+        Request::Turn(_) => s.scan_most as u32,
     }
 }
 
 // Whether a call, and then a task of so many turns, would go past event 65,535 where all work is to end by that event.
-fn is_full(end: u32, most: u16) -> bool
+fn is_full(end: u32, most: u32) -> bool
+    requires { ⌜ most ≤ 131070 ⌝ }
     ensures { λ b. ⌜ b ≡ isPast (end + 1 + most) ⌝ }
 {
     if 65535 < end {
         return true;
     }
-    65535 < end + 1 + most as u32
+    65535 < end + 1 + most
 }
 
 // Whether a page list of that many words is too short for a call or a turn.

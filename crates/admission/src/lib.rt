@@ -5,12 +5,12 @@ pub mod outcomes;
 
 use snapshot::Refusal;
 
-// What a look at every record of a table finds, with the limits that it looks by: the most turns of a scan and of an update, and
-// the event number. `end` is the event number plus all turns that were seen to be owed, not added to once it is past 65,535; `bad`
-// is whether some record cannot have arisen.
+// What a look at every record of a table finds, with the limits that it looks by: the most turns of a scan, how many more an update
+// takes, and the event number. `end` is the event number plus all turns that were seen to be owed, not added to once it is past
+// 65,535; `bad` is whether some record cannot have arisen.
 pub struct Survey {
     pub scan_most: u16,
-    pub update_most: u16,
+    pub update_more: u16,
     pub event: u32,
     pub end: u32,
     pub bad: bool,

@@ -38,8 +38,8 @@ use Rattle.unbounded.specs.Days.{figure3, mostReads}
 use Rattle.unbounded.proofs.Limits.{busy-owes}
 use Rattle.days.specs.Asking.{lentTo}
 use Rattle.days.specs.Happenings.{Box, blankBox, outcomeIn, boxAfter, happeningIn, happenings, dayOf}
+use Rattle.places.specs.Answers.{countAfter}
 use Rattle.book.specs.DayBooks.{bookIn}
-use Rattle.book.specs.Notes.{countAfter}
 use Rattle.book.specs.Passes.{Noted, noteOf, notes, blankNoted}
 use Rattle.days.proofs.Boxes.{lent, item, unread-stays}
 use Rattle.book.proofs.Noted.{noted-count}

@@ -3,8 +3,7 @@ pub mod DayFollows
 pub mod PageWords
 pub mod BookWords
 pub mod DayBooked
-pub mod Spots
-pub mod Kept
+pub mod Past
 pub mod Data
 pub mod Passing
 pub mod Noted

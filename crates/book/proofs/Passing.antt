@@ -19,8 +19,8 @@ use Rattle.unbounded.specs.Processes.{zeroProcess}
 use Rattle.days.specs.Asking.{requestOf, lentTo, askedOutcome, askedTable, askedPage}
 use Rattle.days.specs.Happenings.{Box, Happening, fileOn, dayAfter}
 use Rattle.days.proofs.Files.{happenOn, file-unfold}
+use Rattle.places.specs.Answers.{wordsAfter, countAfter, bookAfter}
 use Rattle.book.specs.declared.notes.Notes.{Notes}
-use Rattle.book.specs.Notes.{wordsAfter, countAfter, bookAfter}
 use Rattle.book.specs.Passes.{blankNotes, nextAfter, Consumes, notesPast, bookPast, Noted, notes, Passed}
 
 -- what the code has at the start of a lap

@@ -1,5 +1,4 @@
--- The book of a day file. Read in this order; Notes and Passes have how the code makes it.
+-- The book of a day file. Read in this order; Passes has how the code makes it.
 pub mod DayBooks
 pub mod Places
-pub mod Notes
 pub mod Passes

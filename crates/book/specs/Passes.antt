@@ -1,4 +1,5 @@
--- A pass of the code over a file: what it holds, what a record makes of it, and what the whole file does.
+-- How the code makes a book, by a pass over a file: what it holds, what a record makes of it, and what the whole file does
+-- (proofs/Noted: it is the book).
 use Prim.Native.Nat.{ℕ, _+_, _-_, _≤_}
 use mathlib.Core.Path.{_≡_}
 use mathlib.Core.Bool.{true, false}
@@ -13,8 +14,8 @@ use Rattle.dayfile.specs.declared.Reading.the-variants.{Found, End, Refused}
 use Rattle.unbounded.specs.Processes.{zeroProcess}
 use Rattle.days.specs.Asking.{requestOf}
 use Rattle.days.specs.Happenings.{Box, Happening, fileOn, dayAfter}
+use Rattle.places.specs.Answers.{wordsAfter, countAfter, bookAfter}
 use Rattle.book.specs.declared.notes.Notes.{Notes}
-use Rattle.book.specs.Notes.{wordsAfter, countAfter, bookAfter}
 
 -- ---- one record
 

@@ -1,13 +1,13 @@
--- The places of a book, and what writing one answers and leaves (document 02, K1).
+-- The place of an operation, and what writing a book answers and leaves (document 02, K1).
 use Prim.Native.Nat.{ℕ}
 use mathlib.Core.Bool.{cond}
 use mathlib.Core.List.{List, [], _∷_, _++_, map}
 use lib.Dec.{ltb}
-use lib.ListN.{length, getD, drop}
-use Rattle.snapshot.specs.Lists.{each}
+use lib.ListN.{length, drop}
 use Rattle.snapshot.specs.Tally.{Job, scan, update}
 use Rattle.snapshot.specs.Book.{Operation}
 use Rattle.snapshot.specs.declared.Refusal.the-variants.{RoomShort}
+use Rattle.places.specs.Places.{eight}
 use Rattle.book.specs.declared.Booking.{Booking}
 use Rattle.book.specs.declared.Booking.the-variants.{Written, Refused}
 
@@ -15,10 +15,6 @@ use Rattle.book.specs.declared.Booking.the-variants.{Written, Refused}
 abbrev pub kindOf : Job → ℕ
 kindOf scan = 3
 kindOf (update k w) = 2
-
--- "eight words, an entry's word first, unused ones 0"
-abbrev pub eight : List ℕ → List ℕ
-eight ws = each 8 (λ i. getD ws i 0)
 
 abbrev pub wordsOf : List ℕ → Job → List ℕ
 wordsOf ws scan = ws

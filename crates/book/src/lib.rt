@@ -7,7 +7,6 @@ ghost use Rattle.book.specs.DayBooks.{processesIn, bookIn};
 ghost use Rattle.book.specs.Places.{bookingOf, bookWith};
 
 mod notes;
-mod places;
 
 // How many places of a book were written, and for how many processes the day is; or why none was.
 pub enum Booking {

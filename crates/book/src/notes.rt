@@ -1,16 +1,13 @@
 // A pass over a day file: each record is read and asked of the table, and what it finishes is put in the book.
-use crate::places;
 use dayfile::Reading;
 use memory::table;
-use snapshot::Answer;
+use places::answers;
 use snapshot::Day;
 use snapshot::Outcome;
-use snapshot::Request;
 ghost use mathlib.Core.Path.{_≡_};
-ghost use Prim.Native.Nat.{_<_, _≤_, _-_, _^_};
+ghost use Prim.Native.Nat.{_≤_};
 ghost use mathlib.Core.Bool.{not};
 ghost use lib.ListN.{length, take, replicate};
-ghost use Rattle.book.specs.Notes.{wordOf, wordsWith, wordsAfter, countAfter, bookAfter};
 ghost use Rattle.book.specs.Passes.{blankNotes, nextAfter, Consumes, notesPast, bookPast, Passed};
 
 // How far a pass has come: the day, the place of the next record and the end of the file, whether all is done, how many operations
@@ -22,95 +19,6 @@ pub struct Notes {
     pub ended: bool,
     pub count: usize,
     pub words: [u32; 8],
-}
-
-// The word of a process's last update call.
-fn word_of(words: [u32; 8], process: u32) -> u32
-    ensures { λ w. ⌜ w ≡ wordOf words process ⌝ }
-{
-    if process < 1 {
-        return 0;
-    }
-    if 8 < process {
-        return 0;
-    }
-    words[(process - 1) as usize]
-}
-
-// The words once a process's is another.
-fn with_word(words: [u32; 8], process: u32, word: u32) -> [u32; 8]
-    ensures { λ ws. ⌜ ws ≡ wordsWith words process word ⌝ }
-{
-    if process < 1 {
-        return words;
-    }
-    if 8 < process {
-        return words;
-    }
-    let mut after = words;
-    after[(process - 1) as usize] = word;
-    after
-}
-
-// The words after a request and its answer.
-fn words_after(words: [u32; 8], r: Request, a: Answer) -> [u32; 8]
-    ensures { λ ws. ⌜ ws ≡ wordsAfter words r a ⌝ }
-{
-    let Answer::Called = a else {
-        return words;
-    };
-    match r {
-        Request::Open(_) => words,
-        Request::Update { process, word } => with_word(words, process, word),
-        Request::Scan(_) => words,
-        Request::Turn(_) => words,
-    }
-}
-
-// Puts what an answer finishes in the book, if it finishes something, and answers how many operations are finished then.
-fn finished(
-    words: [u32; 8],
-    count: usize,
-    r: Request,
-    o: Outcome,
-    page: &[u32],
-    book: &mut [[u32; 11]],
-) -> usize
-    requires { ⌜ count < 2 ^ 64 - 1 ⌝ }
-    ensures { λ k. ⌜ k ≡ countAfter count (o .answer) ⌝ }
-    ensures { λ _. ⌜ now (book .exit) ≡
-        bookAfter words count r (o .day .event)
-        (take (o .day .count) (now (page .entry))) (now (book .entry)) (o .answer) ⌝ }
-{
-    let process = snapshot::number_in(r);
-    let day = o.day;
-    let answer = o.answer;
-    match answer {
-        Answer::Refused(_) => count,
-        Answer::Opened => count,
-        Answer::Called => count,
-        Answer::Read => count,
-        Answer::Page {
-            lender: _,
-            at,
-            turns: _,
-        } => {
-            places::put(
-                places::page(at, process, page, day.count as usize),
-                book,
-                count,
-            );
-            count + 1
-        }
-        Answer::Written { turns: _ } => {
-            places::put(
-                places::entry(day.event, process, word_of(words, process)),
-                book,
-                count,
-            );
-            count + 1
-        }
-    }
 }
 
 // The beginning of a pass over a file of that many bytes.
@@ -164,14 +72,14 @@ fn noted(s: Notes, x: Reading, o: Outcome, page: &[u32], book: &mut [[u32; 11]])
             words,
         };
     };
-    let count = finished(words, s.count, record, o, page, book);
+    let count = answers::finished(words, s.count, record, o, page, book);
     Notes {
         day,
         at: s.at + next,
         end: s.end,
         ended: false,
         count,
-        words: words_after(words, record, answer),
+        words: answers::words_after(words, record, answer),
     }
 }
 

@@ -10,7 +10,8 @@ use Rattle.snapshot.specs.Lists.{All, eachFrom}
 use Rattle.snapshot.specs.Tally.{Job, scan, update}
 use Rattle.snapshot.specs.Book.{Operation}
 use Rattle.snapshot.proofs.Lists.{list-is-each}
-use Rattle.book.specs.Places.{kindOf, eight, wordsOf, placeOf}
+use Rattle.places.specs.Places.{eight}
+use Rattle.book.specs.Places.{kindOf, wordsOf, placeOf}
 use Rattle.book.proofs.BookWords.{ShowsWords}
 use Rattle.daytext.specs.declared.Line.the-variants.{BookPage, End}
 use Rattle.daytext.specs.Lines.{bodyOf, textOf}

@@ -1,7 +1,5 @@
--- That packing and unpacking undo each other, what a stored part makes of a packed one, and that a task of an unknown kind cannot have
--- arisen.
+-- That packing and unpacking undo each other, and that a task of an unknown kind cannot have arisen.
 pub mod Words
 pub mod Packing
-pub mod Stored
 pub mod Kept
 pub mod Unknown

@@ -1,21 +1,21 @@
 -- A record whose arrays have their eight places is unpacked as it was packed (`unpack-packed`).
 use Prim.Native.Nat.{ℕ, zero, suc, _+_, _*_, _<_}
-use native.Mathlib.Nat.{zero-add, not-suc-le-zero}
+use native.Mathlib.Nat.{not-suc-le-zero}
 use native.Mathlib.Omega.{arith}
 use mathlib.Core.Path.{_≡_, refl, sym, ap, ap₂, subst, _∙_}
 use mathlib.Core.Bool.{Bool, true, false}
-use mathlib.Core.List.{List, [], _∷_, _++_, map, append-assoc, append-nil}
-use lib.ListN.{length, getD, take, drop, set, length-append, length-map}
-use lib.Seq.{sets, take-all, take-at, drop-at, drop-drop, getD-drop, getD-append-add}
+use mathlib.Core.List.{List, [], _∷_, _++_, map, append-assoc}
+use lib.ListN.{length, getD, drop, length-append, length-map}
+use lib.Seq.{take-at, drop-at, drop-drop, getD-drop, getD-append-add}
 use Rattle.unbounded.specs.declared.Register.{Register}
 use Rattle.unbounded.specs.declared.Process.{Process}
 use Rattle.unbounded.specs.declared.Task.{Task}
 use Rattle.unbounded.specs.declared.Task.the-variants.{Idle, Scan, Update, Ready}
 use Rattle.unbounded.specs.Registers.{noRegister}
 use Rattle.unbounded.proofs.Whole.{Whole, WholeCollect}
-use Rattle.packed.specs.Packing.{packRegister, storedAt, packTask, packCollect, packMark, packRecord}
-use Rattle.packed.proofs.Words.{words-take, sets-next}
+use Rattle.packed.specs.Packing.{packRegister, packTask, packCollect, packMark, packRecord}
 use Rattle.packed.specs.Packing.{wordAt, words, unpackRegister, unpackTask, unpackCollect, unpackMark, unpackRecord}
+use Rattle.packed.proofs.Words.{words-take}
 
 -- ---- the words past a part
 
@@ -32,13 +32,6 @@ words-at xs ys k e = words-take k (xs ++ ys) (simp length-append (omega (arith, 
 
 pub register-long : (r : Register) → length (r .view) ≡ 8 → length (packRegister r) ≡ 11
 register-long r e = simp (length-append, e)
-
--- a register stored with all eight words of its view
-pub stored-whole : (ws : List ℕ) (r : Register) (a : ℕ) → length (r .view) ≡ 8 → storedAt 8 r a ws ≡ sets ws a (packRegister r)
-unfolding storedAt
-stored-whole ws r a e =
-    ap (λ v. sets (sets ws a (r .word ∷ r .seq ∷ v)) (a + 10) (r .at ∷ [])) (take-all 8 (r .view) (omega (arith, e)))
-    ∙ sym (sets-next ws a (r .word ∷ r .seq ∷ r .view) (r .at ∷ []) (a + 10) (omega (arith, e)))
 
 pub task-long : (k : Task) → length (packTask k) ≡ 4
 task-long Idle = refl
@@ -58,14 +51,6 @@ collect-long (r ∷ rs) h =
     ∙ ap₂ (λ a b. a + b) (register-long r (h .0)) (collect-long rs (h .1)) ∙ omega arith
 
 -- one register more
-pub collect-more : (rs : List Register) (i : ℕ) → i < length rs →
-    packCollect (take i rs) ++ packRegister (getD rs i noRegister) ≡ packCollect (take (suc i) rs)
-collect-more [] i h = absurd (omega (arith, h))
-collect-more (r ∷ rs) zero h = sym (append-nil (packRegister r))
-collect-more (r ∷ rs) (suc i) h =
-    append-assoc (packRegister r) (packCollect (take i rs)) (packRegister (getD rs i noRegister))
-    ∙ ap (λ l. packRegister r ++ l) (collect-more rs i (omega (arith, h)))
-
 pub unpack-more : (k : ℕ) (ws : List ℕ) →
     unpackCollect k ws ++ (unpackRegister (drop (11 * k) ws) ∷ []) ≡ unpackCollect (suc k) ws
 unpack-more zero ws = refl
@@ -74,31 +59,6 @@ unpack-more (suc k) ws =
     ap (λ l. unpackRegister ws ∷ l)
     (ap (λ l. unpackCollect k (drop 11 ws) ++ (unpackRegister l ∷ []))
     (ap (λ i. drop i ws) e ∙ sym (drop-drop (11 * k) 11 ws)) ∙ unpack-more k (drop 11 ws))
-
--- a record, stored part by part
-pub sets-record : (ws : List ℕ) (p : Process) → length (packRegister (p .register)) ≡ 11 → length (packCollect (p .first)) ≡ 88 →
-    length (packCollect (p .second)) ≡ 88 → length (p .view) ≡ 8 →
-    let after = sets (sets (sets (sets ws 0 (packRegister (p .register))) 11 (packTask (p .task))) 15 (packCollect (p .first)))
-    103 (packCollect (p .second)) in
-    sets (sets (set after 191 (p .«first_end»)) 192 (p .view)) 200 (map packMark (p .moved)) ≡ sets ws 0 (packRecord p)
-unfolding packRecord
-sets-record ws p a c d f =
-    let G = map packMark (p .moved) in
-    let E = p .«first_end» ∷ (p .view ++ (G ++ [])) in
-    let D = packCollect (p .second) ++ E in
-    let C = packCollect (p .first) ++ D in
-    let w₁ = sets ws 0 (packRegister (p .register)) in
-    let w₂ = sets w₁ 11 (packTask (p .task)) in
-    let w₃ = sets w₂ 15 (packCollect (p .first)) in
-    let w₄ = sets w₃ 103 (packCollect (p .second)) in
-    sym
-    (sets-next ws 0 (packRegister (p .register)) (packTask (p .task) ++ C) 11 (zero-add (length (packRegister
-    (p .register))) ∙ a)
-    ∙ sets-next w₁ 11 (packTask (p .task)) C 15 (ap (λ k. 11 + k) (task-long (p .task)))
-    ∙ sets-next w₂ 15 (packCollect (p .first)) D 103 (ap (λ k. 15 + k) c)
-    ∙ sets-next w₃ 103 (packCollect (p .second)) E 191 (ap (λ k. 103 + k) d)
-    ∙ sets-next (set w₄ 191 (p .«first_end»)) 192 (p .view) (G ++ []) 200 (ap (λ k. 192 + k) f)
-    ∙ ap (sets (sets (set w₄ 191 (p .«first_end»)) 192 (p .view)) 200) (append-nil G))
 
 -- ---- each part is unpacked as it was packed, whatever follows
 

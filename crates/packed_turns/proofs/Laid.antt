@@ -21,8 +21,8 @@ use Rattle.packed.specs.Packing.{words, unpackRecord}
 use Rattle.packed.proofs.Words.{sets-same, sets-over, sets-within}
 use Rattle.packed.proofs.Packing.{Eights, register-long, task-long, collect-views, own-long, first-long, second-long}
 use Rattle.packed.proofs.Packing.{packed-long, unpack-whole}
-use Rattle.packed.proofs.Stored.{past, front, here, stored-past, stored-place}
 use Rattle.packed.proofs.Kept.{by-parts}
+use Rattle.packed_stores.proofs.Stored.{past, front, here, stored-past, stored-place}
 
 -- ---- a part stored in the words of a packed record
 

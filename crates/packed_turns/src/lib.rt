@@ -27,14 +27,14 @@ pub fn begin(w: &mut [u32; 208], a: Access, k: Task)
 {
     let n = a.n;
     let none = collects::no_register();
-    packed::lay_task(w, k);
-    packed::lay_marks(w, [false; 8]);
-    packed::lay_end(w, 0);
-    packed::lay_kept(w, n, [0; 8]);
+    packed_stores::lay_task(w, k);
+    packed_stores::lay_marks(w, [false; 8]);
+    packed_stores::lay_end(w, 0);
+    packed_stores::lay_kept(w, n, [0; 8]);
     let mut i = 0;
     while i < n {
-        packed::lay_place(w, i, n, none);
-        packed::lay_place(w, 8 + i, n, none);
+        packed_stores::lay_place(w, i, n, none);
+        packed_stores::lay_place(w, 8 + i, n, none);
         i += 1;
     }
 }
@@ -60,10 +60,10 @@ fn go_on(w: &mut [u32; 208], a: Access, r: Register, k: Task)
 {
     let moved = packed::marks_in(w);
     let end = records::end_of(a, packed::end_in(w));
-    packed::lay_task(w, tasks::task_after(k, finds::nothing_found()));
-    packed::lay_marks(w, moved);
-    packed::lay_end(w, end);
-    packed::lay_place(w, place_in(a), a.n, r);
+    packed_stores::lay_task(w, tasks::task_after(k, finds::nothing_found()));
+    packed_stores::lay_marks(w, moved);
+    packed_stores::lay_end(w, end);
+    packed_stores::lay_place(w, place_in(a), a.n, r);
 }
 
 // A read of r that ends its double collect, and what it finds.
@@ -79,8 +79,8 @@ fn decide(w: &mut [u32; 208], a: Access, r: Register, k: Task) -> Find
         begin(w, a, tasks::idle());
         return f;
     }
-    packed::lay_record(w, records::read(a, r, k, f, p));
-    packed::lay_task(w, tasks::task_after(k, f));
+    packed_stores::lay_record(w, records::read(a, r, k, f, p));
+    packed_stores::lay_task(w, tasks::task_after(k, f));
     f
 }
 
@@ -106,5 +106,5 @@ pub fn write(w: &mut [u32; 208], a: Access, k: Task)
 {
     let own = records::written_over(a, k, packed::own_in(w), packed::view_in(w));
     begin(w, a, tasks::idle());
-    packed::lay_own(w, own);
+    packed_stores::lay_own(w, own);
 }

@@ -26,14 +26,6 @@ use Rattle.unbounded_tasks.specs.Surveys.{surveyOf, registerSeen, taskSe
 reads-up-to-8 : (n : ℕ) → 0 < n → n ≤ 8 → readsUpTo8 n ≡ mostReads n
 reads-up-to-8 n l m = simp (le-ltb n 1 (omega arith), le-ltb 8 n m)
 
-pub few-up-to-8 : (n : ℕ) → readsUpTo8 n ≤ 128
-few-up-to-8 n = go (ltb n 1) (ltb 8 n) refl
-  where
-    go : (a b : Bool) → ltb 8 n ≡ b → cond (a || b) 0 (mostReads n) ≤ 128
-    go true b q = omega arith
-    go false true q = omega arith
-    go false false q = few-reads n (ltb-false 8 n q)
-
 -- on a day for 1 to 8 processes, what is found of its table is so
 module _ (s : State Process) (some : 0 < s .day .count) (few : s .day .count ≤ 8) where
   abbrev most : ℕ
@@ -42,7 +34,7 @@ module _ (s : State Process) (some : 0 < s .day .count) (few : s .day .count ≤
   -- the survey before any record, by the most reads of a scan
   abbrev beforeBy : ℕ → Survey
   beforeBy m =
-      record { «scan_most» = m; «update_most» = m + 1; event = s .day .event; end = s .day .event; bad = false }
+      record { «scan_most» = m; «update_more» = 1; event = s .day .event; end = s .day .event; bad = false }
 
   before-is : beforeBy most ≡ surveyOf (s .day)
   unfolding surveyOf
@@ -95,8 +87,8 @@ pub task-first : (s : Survey) (k : Task) (seq at : ℕ) → registerSeen (taskSe
 unfolding taskSeen registerSeen
 task-first s Idle seq at = refl
 task-first s (Scan t) seq at = waits-first s seq at (s .«scan_most») 0 t
-task-first s (Update w t) seq at = waits-first s seq at (s .«scan_most») 1 t
-task-first s (Ready w u t) seq at = waits-first s seq at (s .«update_most») 0 t
+task-first s (Update w t) seq at = waits-first s seq at (s .«scan_most») (s .«update_more») t
+task-first s (Ready w u t) seq at = waits-first s seq at (s .«scan_most» + s .«update_more») 0 t
 
 -- ---- a record that can have arisen has room for one turn and one write more
 

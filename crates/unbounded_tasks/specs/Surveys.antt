@@ -15,7 +15,7 @@ unfoldable pub surveyOf : Day → Survey
 surveyOf day =
     record {
       «scan_most» = readsUpTo8 (day .count);
-      «update_most» = readsUpTo8 (day .count) + 1;
+      «update_more» = 1;
       event = day .event;
       end = day .event;
       bad = false;
@@ -30,8 +30,8 @@ registerSeen s seq at = surveyWith s (s .end) (s .bad || (ltb (s .event) seq || 
 unfoldable pub taskSeen : Survey → Task → Survey
 taskSeen s Idle = s
 taskSeen s (Scan t) = waitsBy s (s .«scan_most») 0 t
-taskSeen s (Update w t) = waitsBy s (s .«scan_most») 1 t
-taskSeen s (Ready w at t) = waitsBy s (s .«update_most») 0 t
+taskSeen s (Update w t) = waitsBy s (s .«scan_most») (s .«update_more») t
+taskSeen s (Ready w at t) = waitsBy s (s .«scan_most» + s .«update_more») 0 t
 
 -- once a record is looked at too: "if in any of the n records .."
 unfoldable pub surveyedBy : Survey → Process → Survey

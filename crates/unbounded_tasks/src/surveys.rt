@@ -14,22 +14,21 @@ ghost use Rattle.unbounded_tasks.specs.Surveys.{surveyOf, registerSeen, 
 pub fn survey_of(day: Day) -> Survey
     ensures { λ s. ⌜ s ≡ surveyOf day ⌝ }
 {
-    let most = most_reads(day.count);
     Survey {
-        scan_most: most,
-        update_most: most + 1,
+        scan_most: most_reads(day.count),
+        update_more: 1,
         event: day.event,
         end: day.event,
         bad: false,
     }
 }
 
-// What is found once p is looked at too: its register, then its task.
+// What is found once p is looked at too: its task, then its register.
 pub fn surveyed(s: Survey, p: Process) -> Survey
     ensures { λ t. ⌜ t ≡ surveyedBy s p ⌝ }
 {
     let k = p.task;
-    task_seen(register_seen(s, p.register.seq, p.register.at), k)
+    register_seen(task_seen(s, k), p.register.seq, p.register.at)
 }
 
 // Once a register with this seq and at is looked at.
@@ -38,7 +37,7 @@ pub fn register_seen(s: Survey, seq: u32, at: u32) -> Survey
 {
     Survey {
         scan_most: s.scan_most,
-        update_most: s.update_most,
+        update_more: s.update_more,
         event: s.event,
         end: s.end,
         bad: bad_register(s, seq, at),
@@ -64,12 +63,14 @@ pub fn task_seen(s: Survey, k: Task) -> Survey
 {
     match k {
         Task::Idle => s,
-        Task::Scan { turns } => checks::waits(s, s.scan_most, 0, turns),
-        Task::Update { word: _, turns } => checks::waits(s, s.scan_most, 1, turns),
+        Task::Scan { turns } => checks::waits(s, s.scan_most as u32, 0, turns),
+        Task::Update { word: _, turns } => {
+            checks::waits(s, s.scan_most as u32, s.update_more as u32, turns)
+        },
         Task::Ready {
             word: _,
             at: _,
             turns,
-        } => checks::waits(s, s.update_most, 0, turns),
+        } => checks::waits(s, s.scan_most as u32 + s.update_more as u32, 0, turns),
     }
 }

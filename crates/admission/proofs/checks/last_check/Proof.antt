@@ -27,7 +27,7 @@ returns c =
       c .cause2 .ensures,
       c .before .cause .ensures,
       full .is-full .ensures,
-      most .most-for .ensures,
+      most .most-for .ensures .0,
       ← b .before .is-call .ensures,
       b .if1 .taken,
     )

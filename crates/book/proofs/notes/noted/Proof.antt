@@ -1,6 +1,6 @@
 -- `book::notes::noted` meets its contract.
 use native.Mathlib.Omega.{arith}
-use Rattle.book.proofs.Kept.{past-found, past-ended}
+use Rattle.book.proofs.Past.{past-found, past-ended}
 use borrow.Author.Needs.{needs}
 use Rattle.book.proofs.notes.noted.Statement.{statement}
 use Rattle.book.proofs.notes.noted.Tie as tie

@@ -1,7 +1,5 @@
 -- `unbounded_tasks::surveys::survey_of` meets its contract.
-use native.Mathlib.Omega.{arith}
 use Rattle.unbounded_tasks.specs.Surveys.{surveyOf}
-use Rattle.unbounded_tasks.proofs.Looks.{few-up-to-8}
 use borrow.Author.Needs.{needs}
 use Rattle.unbounded_tasks.proofs.surveys.survey_of.Statement.{statement}
 use Rattle.unbounded_tasks.proofs.surveys.survey_of.Tie as tie
@@ -9,12 +7,9 @@ use Rattle.unbounded_tasks.proofs.surveys.survey_of.Tie as tie
 most-reads-requires : tie.Need-most-reads-requires
 most-reads-requires c κs = search needs
 
-add-t3 : tie.Need-add-t3
-add-t3 c = omega (arith, c .most-reads .ensures, few-up-to-8 (c .before .args .day .count))
-
 returns : tie.Need-returns
 unfolding surveyOf
 returns c = rw (c .most-reads .ensures)
 
 pub survey-of-spec : {M : Type 1} → statement M
-survey-of-spec = tie.close (tie.spec most-reads-requires add-t3 returns)
+survey-of-spec = tie.close (tie.spec most-reads-requires returns)

@@ -1,0 +1,2 @@
+-- What stored parts make of words, and of a packed record.
+pub mod Stored
