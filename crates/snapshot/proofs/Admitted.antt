@@ -7,13 +7,13 @@ use mathlib.Core.List.{List, []}
 use mathlib.Core.Option.{none}
 use lib.ListN.{length}
 use lib.Dec.{eqb, ltb}
-use borrow.Author.Tests.{eqb-true, eqb-false, ltb-false}
+use borrow.Author.Tests.{eqb-true, eqb-false, ltb-false, not-false}
 use Rattle.snapshot.specs.Refusals.{firstCause, outside, isPast}
 use Rattle.snapshot.specs.Tally.{Job}
 use Rattle.snapshot.specs.Demand.{Among}
 use Rattle.snapshot.specs.Days.{Machine, State, processOf, processOwes, tableOwes, someUnsound}
 use Rattle.snapshot.specs.Days.{openingCauses, causes, lastOfCall, lastOfTurn, callCauses, turnCauses}
-use Rattle.snapshot.proofs.Booleans.{or-neither, not-false}
+use Rattle.snapshot.proofs.Booleans.{or-neither}
 use Rattle.snapshot.proofs.Lists.{some-of-false, sum-at}
 use Rattle.snapshot.proofs.Causes.{Passes, accepted-passes, passes-front}
 

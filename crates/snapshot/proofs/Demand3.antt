@@ -6,13 +6,13 @@ use native.Mathlib.Omega.{arith}
 use native.Mathlib.Decide.{ℕ-discrete}
 use mathlib.Core.Path.{_≡_, refl, sym, ap, ap₂, _∙_, subst}
 use mathlib.Core.Logic.{_≢_, by-cases}
-use mathlib.Core.Bool.{Bool, true, false, cond, not, _||_, true≢false}
+use mathlib.Core.Bool.{Bool, true, false, cond, not, _||_, true≢false, Bool·not-not}
 use mathlib.Core.List.{List, [], _∷_, map}
 use mathlib.Core.Option.{Option, none, some, Option·some-ne-none}
 use lib.ListN.{length, getD, set, take, replicate, length-set, length-map, length-replicate, getD-replicate, List·getD-map}
 use lib.Seq.{getD-set-same, getD-set-other, map-set-same}
 use lib.Dec.{eqb, ltb}
-use borrow.Author.Tests.{eqb-true, eq-eqb, ne-eqb, le-ltb}
+use borrow.Author.Tests.{eqb-true, eq-eqb, ne-eqb, le-ltb, not-false}
 use Rattle.snapshot.specs.declared.Refusal.the-variants.{CountRange, ProcessRange, Busy, Idle, DayFull, LentSize}
 use Rattle.snapshot.specs.declared.Refusal.the-variants.{OpenState}
 use Rattle.snapshot.specs.declared.Answer.{Answer}
@@ -25,7 +25,7 @@ use Rattle.snapshot.specs.Days.{Machine, State, Item, openFor, updateCal
 use Rattle.snapshot.specs.Days.{cannotArise, processOf, processOwes, tableOwes, someUnsound, openingCauses, causes, callCauses, turnCauses}
 use Rattle.snapshot.specs.Days.{lastOfCall, lastOfTurn, refusal}
 use Rattle.snapshot.specs.Days.{openedBy, advance, calledBy, readFrom, turnBy, accept, method, openedFor}
-use Rattle.snapshot.proofs.Booleans.{bool-cases, not-not, not-false}
+use Rattle.snapshot.proofs.Booleans.{bool-cases}
 use Rattle.snapshot.proofs.Admitted.{outside-among, Suited, AdmittedCall, AdmittedTurn, admitted-call, admitted-turn}
 use Rattle.snapshot.proofs.Causes.{accepted-passes, refused-first}
 use Rattle.snapshot.proofs.Lists.{some-of-none, sum-same, map-set, map-replicate, map-constant, list-is-each, each-cong}
@@ -121,7 +121,7 @@ module _ (M : Machine) (n : ℕ) (W : (H : ℕ → State (M .Process)) → Works
         ((isOpen (callOf t d), Busy) ∷ (isFull e (tallyOwes (M .most n) t) (M .most n j), DayFull) ∷ []) (λ m.
         ap₂ (λ b f. firstCause ((not b, Busy) ∷ (f, DayFull) ∷ [])) (idle-is d m) (full-is j)
         ∙ ap (λ b. firstCause ((b, Busy) ∷ (isFull e (tallyOwes (M .most n) t) (M .most n j), DayFull) ∷ []))
-        (not-not (isOpen (callOf t d))))
+        (Bool·not-not (isOpen (callOf t d))))
 
     turn-refused : (d : ℕ) (page : List ℕ) → firstCause (turnCauses M s d page) ≡ firstCause (expectedCauses (method M n) t (turn d) page)
     turn-refused d page =

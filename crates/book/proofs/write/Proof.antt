@@ -1,8 +1,7 @@
 -- `book::write` meets its contract.
 use mathlib.Core.Path.{sym, subst, _∙_}
-use mathlib.Core.Bool.{not}
 use lib.ListN.{replicate}
-use Rattle.snapshot.proofs.Booleans.{not-true, not-false}
+use borrow.Author.Tests.{not-true, not-false}
 use Rattle.book.specs.Passes.{Passed}
 use Rattle.book.proofs.Written.{refuses, writes}
 use borrow.Author.Needs.{needs}

@@ -13,7 +13,7 @@ use Rattle.walks.proofs.Walking.{_▹_, begins-three, three-open, while-loops, 
 use Rattle.walks.proofs.Walking.{tests, calls-passed, field-seen, seen, all-seen, lends-first, lends-again, swaps, swaps-pairs}
 use Rattle.walks.proofs.Walking.{calls-first-two, calls-shared-lent, as-long, room-for, first-long, forgets, copies, ends-three}
 use Rattle.walks.proofs.Walking.{callee, given, asks-nothing, two-said, three-said, id⊢}
-use Rattle.snapshot.proofs.Booleans.{not-true, not-false}
+use borrow.Author.Tests.{not-true, not-false}
 use Rattle.dayfile.specs.declared.Reading.{Reading}
 use Rattle.unbounded.specs.Processes.{zeroProcess}
 use Rattle.days.specs.Asking.{requestOf}
