@@ -1,7 +1,6 @@
 -- Laws of booleans: what a test says of its parts.
 use mathlib.Core.Path.{_≡_, refl}
-use mathlib.Core.Bool.{Bool, true, false, cond, not, _&&_, _||_, true≢false, false≢true}
-use lib.Dec.{T}
+use mathlib.Core.Bool.{Bool, true, false, _&&_, _||_, true≢false, false≢true}
 
 pub bool-cases : {C : Type 0} (b : Bool) → (b ≡ true → C) → (b ≡ false → C) → C
 bool-cases true f g = f refl
@@ -14,11 +13,3 @@ or-neither false b h = (refl, h)
 pub and-both : (a b : Bool) → (a && b) ≡ true → (a ≡ true) × (b ≡ true)
 and-both true b h = (refl, h)
 and-both false b h = absurd (false≢true h)
-
-pub cond-held : {X : Type 0} (c : Bool) (x y : X) → T c → x ≡ cond c x y
-cond-held true x y h = refl
-cond-held false x y h = absurd h
-
-pub cond-failed : {X : Type 0} (c : Bool) (x y : X) → T (not c) → y ≡ cond c x y
-cond-failed true x y h = absurd h
-cond-failed false x y h = refl

@@ -38,7 +38,7 @@ firstCause (c ∷ cs) = cond (c .0) (some (c .1)) (firstCause cs)
 abbrev pub outside : ℕ → ℕ → ℕ → Bool
 outside low high n = ltb n low || ltb high n
 
--- "exceeds 65,535": a day has no event of that number
+-- "exceeds 65,535", the number of the last event that a day can have
 unfoldable pub isPast : ℕ → Bool
 isPast e = ltb 65535 e
 

@@ -96,6 +96,7 @@ tallied stored t x (Written turns) =
 
 -- ---- what is owed (document 02, K2); most is the greatest number of turns of a job
 
+-- "A desk waits while its call is open"
 abbrev pub isOpen : Option Call → Bool
 isOpen none = false
 isOpen (some c) = true
