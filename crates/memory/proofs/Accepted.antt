@@ -40,7 +40,7 @@ use Rattle.unbounded_turns.specs.Steps.{begunBy, stateBy}
 use Rattle.unbounded_tasks.specs.Tasks.{taskFor, answerBy}
 use Rattle.unbounded_tasks.specs.Surveys.{surveyOf, surveyedBy}
 use Rattle.unbounded_turns.proofs.Steps.{access-count, Accessed, a-read, a-write, turn-is-steps}
-use Rattle.unbounded.proofs.Limits.{busy-owes}
+use Rattle.unbounded.proofs.Limits.{busy-owes, sound-due}
 use Rattle.unbounded_tasks.proofs.Looks.{surveyed-table, sound-has-room}
 use Rattle.memory.specs.Tables.{stateOf, outcomeOf, refusalIn, acceptedIn}
 use Rattle.memory.specs.Turning.{TurnAt, readAt, foundAt}
@@ -166,8 +166,8 @@ module _ (day : Day) (ps : List Process) where
     admits =
         accepted-item (figure3 ascending) (λ n. refl) s page (λ n e p. busy-owes (mostReads n) e p) x item accepted
 
-    pub admits-day : Admits day
-    admits-day = record { some = admits .suited .opened; small = admits .suited .small; room = admits .room }
+    pub admits-day : Admits day Tasks.Idle
+    admits-day = record { some = admits .suited .opened; small = admits .suited .small; room = admits .room; due = refl }
 
     pub admits-inside : numberIn x - 1 < length ps
     admits-inside = let n = admits .suited .among in let l = admits .suited .size in omega arith
@@ -216,11 +216,13 @@ module _ (day : Day) (ps : List Process) where
         let a = admits page x item accepted in
         let inside = admits-inside page x item accepted in
         let room = a .room in
-        let few = sound-has-room (day .count) (day .event) p (a .suited .small) (omega arith)
-        (some-of-false (unsound (mostReads (day .count)) (day .event)) ps noProcess (a .suited .sound) i inside) in
+        let sound =
+        some-of-false (unsound (mostReads (day .count)) (day .event)) ps noProcess (a .suited .sound) i inside in
+        let few = sound-has-room (day .count) (day .event) p (a .suited .small) (omega arith) sound in
+        let due = sound-due (mostReads (day .count)) (day .event) p sound in
         let size = a .suited .size in
         record {
-          allows = admits-day page x item accepted;
+          allows = record { some = a .suited .opened; small = a .suited .small; room = a .room; due = due };
           full = omega arith;
           inside = inside;
           task = refl;

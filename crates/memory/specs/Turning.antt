@@ -23,7 +23,7 @@ pub record Turning (a : Access) (f : Find) (p : Process) : Type 0 where
 
 -- record i of a table for the day's processes, with task k
 pub record TurnAt (day : Day) (ps : List Process) (i : ℕ) (k : Task) : Type 0 where
-  pub allows : Admits day
+  pub allows : Admits day k
   pub full : day .count ≤ length ps
   pub inside : i < length ps
   pub task : getD ps i noProcess .task ≡ k

@@ -44,12 +44,16 @@ busy-task-owes most (Scan t) b q = let l = leb-false most t q in omega arith
 busy-task-owes most (Update w t) b q = let l = leb-false most t q in omega arith
 busy-task-owes most (Ready w at t) b q = let l = ltb-false most t q in omega arith
 
+-- a record that can have arisen is not overdue
+pub sound-due : (most e : ℕ) (p : Process) → unsound most e p ≡ false → overdue most (p .task) ≡ false
+unfolding unsound
+sound-due most e p q =
+    let late = or-neither (ltb e (p .register .seq)) (ltb e (p .register .at) || overdue most (p .task)) q in
+    or-neither (ltb e (p .register .at)) (overdue most (p .task)) (late .1) .1
+
 pub busy-owes : (most e : ℕ) (p : Process) → isIdle (p .task) ≡ false → unsound most e p ≡ false →
     0 < greatest most (p .task) - turnsOf (p .task)
-unfolding unsound
-busy-owes most e p b q =
-    let late = or-neither (ltb e (p .register .seq)) (ltb e (p .register .at) || overdue most (p .task)) q in
-    busy-task-owes most (p .task) b (or-neither (ltb e (p .register .at)) (overdue most (p .task)) (late .1) .1)
+busy-owes most e p b q = busy-task-owes most (p .task) b (sound-due most e p q)
 
 -- what demand 3 takes from the method for the most turns of a job: the table, and for an update "one turn more"
 pub most-turns-test : (o : Order) (d w : ℕ) →

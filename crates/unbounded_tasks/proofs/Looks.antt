@@ -18,7 +18,7 @@ use Rattle.unbounded.specs.declared.Task.the-variants.{Idle, Scan, Update, Read
 use Rattle.unbounded.specs.Registers.{ascending}
 use Rattle.unbounded.specs.Processes.{turnsOf}
 use Rattle.unbounded.specs.Days.{figure3, mostReads, readsUpTo8, greatest, overdue, unsound}
-use Rattle.unbounded.proofs.Limits.{few-reads}
+use Rattle.unbounded.proofs.Limits.{few-reads, sound-due}
 use Rattle.unbounded_tasks.specs.Surveys.{surveyOf, registerSeen, taskSeen, surveyedBy}
 
 -- ---- all records
@@ -103,8 +103,7 @@ pub sound-has-room : (n e : ℕ) (p : Process) → n ≤ 8 → e ≤ 65535 → u
 unfolding unsound
 sound-has-room n e p l m h =
     let late = or-neither (ltb e (p .register .seq)) (ltb e (p .register .at) || overdue (mostReads n) (p .task)) h in
-    let due = or-neither (ltb e (p .register .at)) (overdue (mostReads n) (p .task)) (late .1) in
     let seq = ltb-false e (p .register .seq) (late .0) in
-    let turns = few-turns (mostReads n) (p .task) (due .1) in
+    let turns = few-turns (mostReads n) (p .task) (sound-due (mostReads n) e p h) in
     let few = few-reads n l in
     (omega arith, omega arith)

@@ -1,5 +1,6 @@
 -- What the next turn of a task goes by: which register it reads, if it reads one, and where in its double collect.
 use Prim.Native.Nat.{ℕ, _+_, _*_, _≤_, _<_}
+use mathlib.Core.Path.{_≡_}
 use mathlib.Core.Bool.{Bool, true, false}
 use mathlib.Core.List.{List}
 use lib.ListN.{length, getD}
@@ -10,6 +11,7 @@ use Rattle.unbounded.specs.declared.Task.{Task}
 use Rattle.unbounded.specs.declared.Task.the-variants.{Idle, Scan, Update, Ready}
 use Rattle.unbounded.specs.Processes.{noProcess}
 use Rattle.unbounded.specs.Turns.{position, placeAt}
+use Rattle.unbounded.specs.Days.{mostReads, overdue}
 use Rattle.unbounded_tasks.specs.declared.Access.{Access}
 
 -- an update that is ready to write: its next turn reads no register (document 01, What one turn does, 5)
@@ -19,11 +21,13 @@ isReady (Scan t) = false
 isReady (Update w t) = false
 isReady (Ready w at t) = true
 
--- a day of 1 to 8 processes that is not full: what 10, 11 and 5 leave of a day that is asked for a call or a turn
-pub record Admits (day : Day) : Type 0 where
+-- a day of 1 to 8 processes that is not full, and a task that is not overdue: what 10, 11 and 5 leave of a day that is asked for a
+-- turn of a process with task k, or for a call of one that is idle
+pub record Admits (day : Day) (k : Task) : Type 0 where
   pub some : 0 < day .count
   pub small : day .count ≤ 8
   pub room : day .event < 65535
+  pub due : overdue (mostReads (day .count)) k ≡ false
 
 -- where the next read of a task stands in its double collect (document 01, What one turn does, 1); 0 for a task that reads none
 abbrev pub nextPosition : ℕ → Task → ℕ

@@ -3,8 +3,11 @@ use crate::Access;
 use snapshot::Day;
 use unbounded::Task;
 ghost use mathlib.Core.Path.{_≡_};
-ghost use Prim.Native.Nat.{_*_, _≤_, _<_};
+ghost use mathlib.Core.Bool.{false};
+ghost use Prim.Native.Nat.{_*_, _%_, _≤_, _<_};
+ghost use Rattle.unbounded.specs.declared.Task.the-variants.{Idle};
 ghost use Rattle.unbounded.specs.Turns.{position};
+ghost use Rattle.unbounded.specs.Days.{mostReads, overdue};
 ghost use Rattle.unbounded_tasks.specs.Accesses.{isReady, Admits, Sound, nextPosition, accessOf, callAccess, readsIn};
 
 // Whether a task is an update that is ready to write: its next turn reads no register.
@@ -23,17 +26,31 @@ pub fn is_ready(k: Task) -> bool
     }
 }
 
-// Where reading turn t stands in its double collect.
+// The remainder of t by s, which goes into it at most once.
+fn rest(t: usize, s: usize) -> usize
+    requires { ⌜ t < 2 * s ⌝ }
+    ensures { λ r. ⌜ r ≡ t % s ⌝ }
+    ensures { λ r. ⌜ r < s ⌝ }
+{
+    if t < s { t } else { t - s }
+}
+
+// Where reading turn t stands in its double collect: at t in the first, where most pages are found. A t below 2n² lies in one of the
+// first eight, so that 8n, 4n and 2n go into what is left at most once each, and nothing is divided.
 fn position_of(n: usize, t: u32) -> usize
-    requires { ⌜ (0 < n) × (n ≤ 8) ⌝ }
+    requires { ⌜ (0 < n) × (n ≤ 8) × (t < mostReads n) ⌝ }
     ensures { λ r. ⌜ r ≡ position n t ⌝ }
 {
-    (t as usize) % (2 * n)
+    let turn = t as usize;
+    if turn < 2 * n {
+        return turn;
+    }
+    rest(rest(rest(turn, 8 * n), 4 * n), 2 * n)
 }
 
 // Where the next read of a task stands in its double collect.
 fn next_position(n: usize, k: Task) -> usize
-    requires { ⌜ (0 < n) × (n ≤ 8) ⌝ }
+    requires { ⌜ (0 < n) × (n ≤ 8) × (overdue (mostReads n) k ≡ false) ⌝ }
     ensures { λ r. ⌜ r ≡ nextPosition n k ⌝ }
     ensures { λ r. ⌜ r < 2 * n ⌝ }
 {
@@ -51,7 +68,7 @@ fn next_position(n: usize, k: Task) -> usize
 
 // What the next turn of a task goes by.
 pub fn access_of(day: Day, k: Task) -> Access
-    requires { ⌜ Admits day ⌝ }
+    requires { ⌜ Admits day k ⌝ }
     ensures { λ a. ⌜ a ≡ accessOf day k ⌝ }
     ensures { λ a. ⌜ Sound a ⌝ }
 {
@@ -74,7 +91,7 @@ pub fn place_of(a: Access) -> usize
 
 // What a call goes by.
 pub fn call_access(day: Day) -> Access
-    requires { ⌜ Admits day ⌝ }
+    requires { ⌜ Admits day Idle ⌝ }
     ensures { λ a. ⌜ a ≡ callAccess day ⌝ }
     ensures { λ a. ⌜ Sound a ⌝ }
 {

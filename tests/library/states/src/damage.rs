@@ -57,8 +57,7 @@ pub fn page_list(random: &mut Random, least: usize) -> Vec<u32> {
     (0..words).map(|_| number(random)).collect()
 }
 
-/// A day for n desks and records that are not refused with 11, rubbish as they are. Often nobody waits,
-/// or only one desk may.
+/// A day for n desks that is not refused with 11. Often nobody waits, or only one desk may.
 fn accepted(random: &mut Random, n: usize) -> State {
     let one = random.below(n);
     let waiting = match random.below(8) {
@@ -66,15 +65,31 @@ fn accepted(random: &mut Random, n: usize) -> State {
         1 | 2 => one..one + 1,
         _ => 0..n,
     };
-    let table = (0..n).map(|own| task(random, n as u32, waiting.contains(&own))).collect();
-    let mut state = State { count: n as u32, event: 0, table, page: page_list(random, n) };
+    let mut tasks: Vec<Words> =
+        (0..n).map(|own| task(random, n as u32, waiting.contains(&own))).collect();
     if waiting.len() == 1 && random.once_in(2) {
         // The last turn of all that are owed.
-        (state.table[one][KIND], state.table[one][TURNS]) = match random.below(2) {
-            0 => (PAGE, most_reads(state.count) - 1),
-            _ => (READY, most_reads(state.count)),
+        (tasks[one][KIND], tasks[one][TURNS]) = match random.below(2) {
+            0 => (PAGE, most_reads(n as u32) - 1),
+            _ => (READY, most_reads(n as u32)),
         };
     }
+    with_tasks(random, tasks)
+}
+
+/// A day for n desks that is not refused with 11, and one of them whose task is of this kind and has
+/// had so many turns.
+pub fn reading(random: &mut Random, n: u32, kind: u32, turns: u32) -> (State, u32) {
+    let mut tasks: Vec<Words> = (0..n).map(|_| task(random, n, true)).collect();
+    let one = random.below(n as usize);
+    (tasks[one][KIND], tasks[one][TURNS]) = (kind, turns);
+    (with_tasks(random, tasks), one as u32 + 1)
+}
+
+/// A day that is not refused with 11, with records of these tasks, rubbish as they are.
+fn with_tasks(random: &mut Random, tasks: Vec<Words>) -> State {
+    let n = tasks.len();
+    let mut state = State { count: n as u32, event: 0, table: tasks, page: page_list(random, n) };
     state.event = event(random, &state);
     let rows: Vec<[u32; ROW_WORDS]> = (0..n).map(|_| row(random, state.event)).collect();
     for (own, words) in state.table.iter_mut().enumerate() {

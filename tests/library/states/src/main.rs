@@ -1,16 +1,18 @@
 //! Drives the library and the model with the same requests and compares the answer, the day, every
-//! word of every record and every word of the page list: `states [--follow] [STATES [SEED]]`. State k
-//! of a seed is state 1 of that seed plus k - 1. With --follow, every state and request is printed
+//! word of every record and every word of the page list: `states [--follow] [STATES [SEED]]`. First
+//! every reading turn that there is, then that many states. State k of a seed is state 1 of that seed
+//! plus k - 1. With --follow, every state and request is printed
 //! before the library gets it, for a library that does not come back.
 
 mod library;
 
 use model::days::random_day;
 use model::random::Random;
+use model::register::{most_reads, PLACES};
 use states::damage::{self, page_list};
 use states::differences::{differences, request_line, state_lines};
 use states::reached::Counts;
-use states::record::Words;
+use states::record::{Words, ENTRY, PAGE};
 use states::state::*;
 use states::wanted::{found, wanted};
 use states::{bytes, requests};
@@ -32,12 +34,9 @@ fn main() -> ExitCode {
         return ExitCode::from(2);
     };
     let mut driver = Driver { follow, ..Driver::default() };
-    for k in 0..states {
-        let seed = seed.wrapping_add(k);
-        if let Err(why) = driver.run(seed) {
-            println!("{why}\nto see it again: states 1 {seed}");
-            return ExitCode::FAILURE;
-        }
+    if let Err(why) = driver.all(states, seed) {
+        println!("{why}");
+        return ExitCode::FAILURE;
     }
     let reached = driver.counts.reached();
     print!("{reached}");
@@ -74,6 +73,31 @@ struct Driver {
 }
 
 impl Driver {
+    /// Every reading turn, and so many states.
+    fn all(&mut self, states: u64, seed: u64) -> Checked {
+        let again = |why, seed| format!("{why}\nto see it again: states 1 {seed}");
+        self.reading_turns(seed).map_err(|why| again(why, seed))?;
+        for k in 0..states {
+            let seed = seed.wrapping_add(k);
+            self.run(seed).map_err(|why| again(why, seed))?;
+        }
+        Ok(())
+    }
+
+    /// Each of the 2n² reading turns of a page and of an entry, for every n.
+    fn reading_turns(&mut self, seed: u64) -> Checked {
+        let mut random = Random::new(seed);
+        for n in 1..=PLACES as u32 {
+            for turns in 0..most_reads(n) {
+                for kind in [PAGE, ENTRY] {
+                    let (state, process) = damage::reading(&mut random, n, kind, turns);
+                    self.check(&state, Request { kind: TURN, process, word: 0 })?;
+                }
+            }
+        }
+        Ok(())
+    }
+
     fn run(&mut self, seed: u64) -> Checked {
         let mut random = Random::new(seed);
         for _ in 0..3 {

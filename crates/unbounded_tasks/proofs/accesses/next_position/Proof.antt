@@ -2,9 +2,11 @@
 use mathlib.Core.Path.{sym, ap, _∙_, subst}
 use Prim.Native.Nat.{_<_, _*_}
 use native.Mathlib.Omega.{arith}
+use Rattle.unbounded.specs.Days.{mostReads, overdue}
 use Rattle.unbounded_tasks.specs.Accesses.{nextPosition}
 use Rattle.unbounded.proofs.Reading.{position-low}
 use borrow.Author.Needs.{needs}
+use borrow.Author.Tests.{leb-false}
 use Rattle.unbounded_tasks.proofs.accesses.next_position.Statement.{statement}
 use Rattle.unbounded_tasks.proofs.accesses.next_position.Tie as tie
 
@@ -15,13 +17,23 @@ enum-known-k : tie.Need-enum-known-k
 enum-known-k c = search needs
 
 position-of-requires : tie.Need-position-of-requires
-position-of-requires c κs = search needs
+position-of-requires c κs =
+    let start = c .before .before .before in
+    let most = mostReads (start .args .n) in
+    let k = c .before .k .given in
+    let few = leb-false most (k .0 .0) (sym (ap (overdue most) (k .1)) ∙ start .pre .2) in
+    search needs
 
 enum-known-k-2 : tie.Need-enum-known-k-2
 enum-known-k-2 c = search needs
 
 position-of-requires-2 : tie.Need-position-of-requires-2
-position-of-requires-2 c κs = search needs
+position-of-requires-2 c κs =
+    let start = c .before .before .before in
+    let most = mostReads (start .args .n) in
+    let k = c .before .k2 .given in
+    let few = leb-false most (k .0 .1 .0) (sym (ap (overdue most) (k .1)) ∙ start .pre .2) in
+    search needs
 
 enum-told-2 : tie.Need-enum-told-2
 enum-told-2 c = search needs
