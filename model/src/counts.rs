@@ -1,9 +1,8 @@
 //! What a set of days has reached, counted from the model's own answers.
 
 use crate::dayfile::Record;
-use crate::register::{most_reads, Refusal, Task, Turn, LAST_EVENT, PLACES};
+use crate::register::{most_reads, Refusal, Turn, LAST_EVENT, PLACES};
 use crate::runner::{Done, Register};
-use std::collections::BTreeMap;
 use std::fmt;
 
 #[derive(Default)]
@@ -14,9 +13,6 @@ pub struct Counts {
     /// Pages of 2n² turns and entries of 2n²+1, by n.
     pub longest_pages: [u64; PLACES + 1],
     pub longest_entries: [u64; PLACES + 1],
-    /// The reading turns of pages and of entries.
-    pub page_reads: Reads,
-    pub entry_reads: Reads,
     /// By number.
     pub refusals: [u64; 12],
     pub full_call: u64,
@@ -37,10 +33,7 @@ impl Counts {
             Err(refusal) => self.refused(record, refusal, register),
             // Events count from 1.
             Ok(Done::Opened) => self.makers = vec![0],
-            Ok(done) => {
-                self.accepted(record, done, register.day.desks);
-                self.read(record, done, register);
-            }
+            Ok(done) => self.accepted(record, done, register.day.desks),
         }
     }
 
@@ -57,21 +50,6 @@ impl Counts {
             }
             Done::Turned(Turn::Written { turns }) => {
                 self.longest_entries[n as usize] += u64::from(turns == most_reads(n) + 1);
-            }
-            _ => {}
-        }
-    }
-
-    /// A turn that read a row, by the turns that its task has had with it.
-    fn read(&mut self, record: Option<Record>, done: Done, register: &Register) {
-        let n = register.day.desks;
-        let (Some(Record::Turn { desk }), Done::Turned(turn)) = (record, done) else { return };
-        match (turn, register.table[desk as usize - 1].task) {
-            (Turn::Page { turns, .. }, _) | (Turn::Read, Task::Page { turns }) => {
-                self.page_reads.add(n, turns - 1);
-            }
-            (Turn::Read, Task::Entry { turns, .. } | Task::Ready { turns, .. }) => {
-                self.entry_reads.add(n, turns - 1);
             }
             _ => {}
         }
@@ -98,24 +76,6 @@ impl Counts {
                 _ => {}
             }
         }
-    }
-}
-
-/// How often each reading turn, "t (from 0)", was made on days of n desks.
-#[derive(Default)]
-pub struct Reads(BTreeMap<(u32, u32), u64>);
-
-impl Reads {
-    pub fn add(&mut self, n: u32, t: u32) {
-        *self.0.entry((n, t)).or_default() += 1;
-    }
-
-    /// How often the rarest of the 2n² turns was made, for n = 1 to 8.
-    pub fn rarest(&self) -> Vec<u64> {
-        let made = |n, t| self.0.get(&(n, t)).copied().unwrap_or_default();
-        (1..=PLACES as u32)
-            .map(|n| (0..most_reads(n)).map(|t| made(n, t)).min().unwrap_or_default())
-            .collect()
     }
 }
 

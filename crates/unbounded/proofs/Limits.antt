@@ -37,19 +37,19 @@ pub few-reads : (n : ℕ) → n ≤ 8 → mostReads n ≤ 128
 unfolding mostReads
 few-reads n l = let w = mul-le-mul l l in omega arith
 
+-- the task of a record that can have arisen is not overdue
+pub sound-due : (most e : ℕ) (p : Process) → unsound most e p ≡ false → overdue most (p .task) ≡ false
+unfolding unsound
+sound-due most e p q =
+    let late = or-neither (ltb e (p .register .seq)) (ltb e (p .register .at) || overdue most (p .task)) q in
+    or-neither (ltb e (p .register .at)) (overdue most (p .task)) (late .1) .1
+
 -- a process that has a task and can have arisen owes at least one turn
 busy-task-owes : (most : ℕ) (k : Task) → isIdle k ≡ false → overdue most k ≡ false → 0 < greatest most k - turnsOf k
 busy-task-owes most Idle b q = absurd (true≢false b)
 busy-task-owes most (Scan t) b q = let l = leb-false most t q in omega arith
 busy-task-owes most (Update w t) b q = let l = leb-false most t q in omega arith
 busy-task-owes most (Ready w at t) b q = let l = ltb-false most t q in omega arith
-
--- a record that can have arisen is not overdue
-pub sound-due : (most e : ℕ) (p : Process) → unsound most e p ≡ false → overdue most (p .task) ≡ false
-unfolding unsound
-sound-due most e p q =
-    let late = or-neither (ltb e (p .register .seq)) (ltb e (p .register .at) || overdue most (p .task)) q in
-    or-neither (ltb e (p .register .at)) (overdue most (p .task)) (late .1) .1
 
 pub busy-owes : (most e : ℕ) (p : Process) → isIdle (p .task) ≡ false → unsound most e p ≡ false →
     0 < greatest most (p .task) - turnsOf (p .task)

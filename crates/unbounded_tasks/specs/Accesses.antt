@@ -21,8 +21,8 @@ isReady (Scan t) = false
 isReady (Update w t) = false
 isReady (Ready w at t) = true
 
--- a day of 1 to 8 processes that is not full, and a task that is not overdue: what 10, 11 and 5 leave of a day that is asked for a
--- turn of a process with task k, or for a call of one that is idle
+-- a day of 1 to 8 processes that is not full, and a task that is not overdue: what the refusals leave of a day on which a process
+-- with task k has a turn, or an idle one calls
 pub record Admits (day : Day) (k : Task) : Type 0 where
   pub some : 0 < day .count
   pub small : day .count ≤ 8

@@ -26,7 +26,7 @@ pub fn is_ready(k: Task) -> bool
     }
 }
 
-// The remainder of t by s, which goes into it at most once.
+// The remainder of t by s, where s goes into t at most once.
 fn rest(t: usize, s: usize) -> usize
     requires { ⌜ t < 2 * s ⌝ }
     ensures { λ r. ⌜ r ≡ t % s ⌝ }
@@ -35,8 +35,8 @@ fn rest(t: usize, s: usize) -> usize
     if t < s { t } else { t - s }
 }
 
-// Where reading turn t stands in its double collect: at t in the first, where most pages are found. A t below 2n² lies in one of the
-// first eight, so that 8n, 4n and 2n go into what is left at most once each, and nothing is divided.
+// Where reading turn t stands in its double collect: at t in the first, where a page is found if nobody writes meanwhile. A t below
+// 2n² is below 16n, so that 8n, 4n and 2n each go at most once into what is left, and nothing is divided.
 fn position_of(n: usize, t: u32) -> usize
     requires { ⌜ (0 < n) × (n ≤ 8) × (t < mostReads n) ⌝ }
     ensures { λ r. ⌜ r ≡ position n t ⌝ }

@@ -69,9 +69,6 @@ fn reached(random: &Counts, special: &Counts) -> Reached {
     reached.add("pages borrowed from a borrower", &[random.borrowed_twice]);
     reached.add("pages of exactly 2n² turns, n = 1 to 8", &random.longest_pages[1..]);
     reached.add("entries of exactly 2n²+1 turns, n = 1 to 8", &random.longest_entries[1..]);
-    let (page, entry) = (random.page_reads.rarest(), random.entry_reads.rarest());
-    reached.add("the rarest of a page's 2n² reading turns, n = 1 to 8", &page);
-    reached.add("the rarest of an entry's 2n² reading turns, n = 1 to 8", &entry);
     reached.add("refusals 1 to 4", &random.refusals[1..=4]);
     reached.add("refusals 7 to 10", &random.refusals[7..=10]);
     reached.add("calls after the last event, refused 5", &[special.full_call]);

@@ -77,13 +77,21 @@ fn accepted(random: &mut Random, n: usize) -> State {
     with_tasks(random, tasks)
 }
 
-/// A day for n desks that is not refused with 11, and one of them whose task is of this kind and has
+/// A day for n desks that is not refused with 11, and a desk of it whose task is of this kind and has
 /// had so many turns.
 pub fn reading(random: &mut Random, n: u32, kind: u32, turns: u32) -> (State, u32) {
     let mut tasks: Vec<Words> = (0..n).map(|_| task(random, n, true)).collect();
     let one = random.below(n as usize);
     (tasks[one][KIND], tasks[one][TURNS]) = (kind, turns);
-    (with_tasks(random, tasks), one as u32 + 1)
+    let mut state = with_tasks(random, tasks);
+    // So that a read in a wrong place is seen.
+    for j in 0..n as usize {
+        for collect in [FIRST, SECOND] {
+            let at = place(collect, j);
+            state.table[one][at..][..ROW_WORDS].copy_from_slice(&rubbish_row(random));
+        }
+    }
+    (state, one as u32 + 1)
 }
 
 /// A day that is not refused with 11, with records of these tasks, rubbish as they are.

@@ -1,8 +1,8 @@
 //! Drives the library and the model with the same requests and compares the answer, the day, every
 //! word of every record and every word of the page list: `states [--follow] [STATES [SEED]]`. First
 //! every reading turn that there is, then that many states. State k of a seed is state 1 of that seed
-//! plus k - 1. With --follow, every state and request is printed
-//! before the library gets it, for a library that does not come back.
+//! plus k - 1. With --follow, every state and request is printed before the library gets it, for a
+//! library that does not come back.
 
 mod library;
 
@@ -91,7 +91,10 @@ impl Driver {
             for turns in 0..most_reads(n) {
                 for kind in [PAGE, ENTRY] {
                     let (state, process) = damage::reading(&mut random, n, kind, turns);
-                    self.check(&state, Request { kind: TURN, process, word: 0 })?;
+                    let outcome = self.check(&state, Request { kind: TURN, process, word: 0 })?;
+                    if outcome.reply.kind == REFUSED {
+                        return Err(format!("n = {n}: reading turn {turns} is refused"));
+                    }
                 }
             }
         }

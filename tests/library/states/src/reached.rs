@@ -2,7 +2,7 @@
 
 use crate::record::*;
 use crate::state::*;
-use model::counts::{Reached, Reads};
+use model::counts::Reached;
 use model::register::{most_reads, LAST_EVENT, PLACES};
 use std::collections::BTreeMap;
 
@@ -118,11 +118,7 @@ const READER: &[&str] = &[
 ];
 
 #[derive(Default)]
-pub struct Counts {
-    met: BTreeMap<&'static str, [u64; LAST_COLUMN + 1]>,
-    page_reads: Reads,
-    entry_reads: Reads,
-}
+pub struct Counts(BTreeMap<&'static str, [u64; LAST_COLUMN + 1]>);
 
 impl Counts {
     fn add(&mut self, name: &'static str, n: usize) {
@@ -131,12 +127,12 @@ impl Counts {
 
     fn add_if(&mut self, met: bool, name: &'static str, n: usize) {
         if met {
-            self.met.entry(name).or_default()[n.min(LAST_COLUMN)] += 1;
+            self.0.entry(name).or_default()[n.min(LAST_COLUMN)] += 1;
         }
     }
 
     fn of(&self, name: &str) -> [u64; LAST_COLUMN + 1] {
-        self.met.get(name).copied().unwrap_or_default()
+        self.0.get(name).copied().unwrap_or_default()
     }
 
     /// All that must be reached, with its counts.
@@ -149,9 +145,6 @@ impl Counts {
             };
             reached.add(format!("{name}{columns}"), &self.of(name)[from..=to]);
         }
-        let (page, entry) = (self.page_reads.rarest(), self.entry_reads.rarest());
-        reached.add("the rarest of a page's 2n² reading turns, n = 1 to 8", &page);
-        reached.add("the rarest of an entry's 2n² reading turns, n = 1 to 8", &entry);
         for name in READER {
             reached.add(*name, &self.of(name)[..1]);
         }
@@ -302,12 +295,6 @@ impl Counts {
         let n = before.count as usize;
         self.add_if(work_needs(before) == LAST, "turns accepted where they are 65,535", n);
         self.accepted(before, request, outcome);
-        let own = &before.table[request.process as usize - 1];
-        match own[KIND] {
-            PAGE => self.page_reads.add(before.count, own[TURNS]),
-            ENTRY => self.entry_reads.add(before.count, own[TURNS]),
-            _ => {}
-        }
         match outcome.reply.kind {
             READ => self.read(before, request, outcome),
             PAGE_ANSWER => self.page(before, request, outcome.reply),
