@@ -26,8 +26,8 @@ pub fn is_ready(k: Task) -> bool
     }
 }
 
-// The remainder of t by s, where s goes into t at most once.
-fn rest(t: usize, s: usize) -> usize
+// t reduced modulo s, where s goes into t at most once.
+fn reduced(t: usize, s: usize) -> usize
     requires { ⌜ t < 2 * s ⌝ }
     ensures { λ r. ⌜ r ≡ t % s ⌝ }
     ensures { λ r. ⌜ r < s ⌝ }
@@ -45,7 +45,7 @@ fn position_of(n: usize, t: u32) -> usize
     if turn < 2 * n {
         return turn;
     }
-    rest(rest(rest(turn, 8 * n), 4 * n), 2 * n)
+    reduced(reduced(reduced(turn, 8 * n), 4 * n), 2 * n)
 }
 
 // Where the next read of a task stands in its double collect.

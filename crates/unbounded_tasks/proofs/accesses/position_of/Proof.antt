@@ -17,43 +17,43 @@ returns : tie.Need-returns
 unfolding position
 returns c = sym (mod-eq-of-lt (c .if1 .taken))
 
-mul-rest : tie.Need-mul-rest
-mul-rest c = search needs
+mul-reduced : tie.Need-mul-reduced
+mul-reduced c = search needs
 
-rest-requires : tie.Need-rest-requires
+reduced-requires : tie.Need-reduced-requires
 unfolding mostReads
-rest-requires c κs =
+reduced-requires c κs =
     let start = c .before in
     let l = mul-le-mul-left (start .args .n) (start .pre .1) in
     omega arith
 
-mul-rest-2 : tie.Need-mul-rest-2
-mul-rest-2 c = search needs
+mul-reduced-2 : tie.Need-mul-reduced-2
+mul-reduced-2 c = search needs
 
-rest-requires-2 : tie.Need-rest-requires-2
-rest-requires-2 c κs = search needs
+reduced-requires-2 : tie.Need-reduced-requires-2
+reduced-requires-2 c κs = search needs
 
-mul-rest-3 : tie.Need-mul-rest-3
-mul-rest-3 c = search needs
+mul-reduced-3 : tie.Need-mul-reduced-3
+mul-reduced-3 c = search needs
 
-rest-requires-3 : tie.Need-rest-requires-3
-rest-requires-3 c κs = search needs
+reduced-requires-3 : tie.Need-reduced-requires-3
+reduced-requires-3 c κs = search needs
 
 -- a remainder by a multiple of s has the same remainder by s
-same-rest : (t s k : ℕ) {m : ℕ} → m ≡ k * s → t % m % s ≡ t % s
-same-rest t s k q = ap (λ m. t % m % s) q ∙ mod-mod-of-dvd s t (dvd-mul-left s k)
+same-reduced : (t s k : ℕ) {m : ℕ} → m ≡ k * s → t % m % s ≡ t % s
+same-reduced t s k q = ap (λ m. t % m % s) q ∙ mod-mod-of-dvd s t (dvd-mul-left s k)
 
 returns-2 : tie.Need-returns-2
 unfolding position
 returns-2 c =
-    let eight = c .before .before .rest in
+    let eight = c .before .before .reduced in
     let a = c .before .before .before .before .args in
     let s = 2 * a .n in
-    c .rest3 .ensures .0
-    ∙ ap (λ x. x % s) (c .before .rest2 .ensures .0)
-    ∙ same-rest (eight .result) s 2 (omega arith)
+    c .reduced3 .ensures .0
+    ∙ ap (λ x. x % s) (c .before .reduced2 .ensures .0)
+    ∙ same-reduced (eight .result) s 2 (omega arith)
     ∙ ap (λ x. x % s) (eight .ensures .0)
-    ∙ same-rest (a .t) s 4 (omega arith)
+    ∙ same-reduced (a .t) s 4 (omega arith)
 
 pub position-of-spec : {M : Type 1} → statement M
 position-of-spec =
@@ -61,10 +61,10 @@ position-of-spec =
     (tie.spec
     mul-if1
     returns
-    mul-rest
-    rest-requires
-    mul-rest-2
-    rest-requires-2
-    mul-rest-3
-    rest-requires-3
+    mul-reduced
+    reduced-requires
+    mul-reduced-2
+    reduced-requires-2
+    mul-reduced-3
+    reduced-requires-3
     returns-2)
