@@ -1,7 +1,10 @@
 -- `unbounded_tasks::accesses::next_position` meets its contract: a remainder by 2n is below 2n.
-use mathlib.Core.Path.{sym, ap, _∙_, subst}
-use Prim.Native.Nat.{_<_, _*_}
+use mathlib.Core.Path.{_≡_, refl, sym, ap, _∙_, subst}
+use mathlib.Core.Bool.{false}
+use lib.Dec.{leb}
+use Prim.Native.Nat.{ℕ, _<_, _*_}
 use native.Mathlib.Omega.{arith}
+use Rattle.unbounded.specs.declared.Task.{Task}
 use Rattle.unbounded.specs.Days.{mostReads, overdue}
 use Rattle.unbounded_tasks.specs.Accesses.{nextPosition}
 use Rattle.unbounded.proofs.Reading.{position-low}
@@ -16,12 +19,15 @@ enum-told c = search needs
 enum-known-k : tie.Need-enum-known-k
 enum-known-k c = search needs
 
+-- a task that reads, and is not overdue, has had fewer turns than the most
+turns-left : (most t : ℕ) {k reading : Task} → k ≡ reading → overdue most reading ≡ leb most t → overdue most k ≡ false → t < most
+turns-left most t q r due = leb-false most t (sym r ∙ sym (ap (overdue most) q) ∙ due)
+
 position-of-requires : tie.Need-position-of-requires
 position-of-requires c κs =
     let start = c .before .before .before in
-    let most = mostReads (start .args .n) in
     let k = c .before .k .given in
-    let few = leb-false most (k .0 .0) (sym (ap (overdue most) (k .1)) ∙ start .pre .2) in
+    let few = turns-left (mostReads (start .args .n)) (k .0 .0) (k .1) refl (start .pre .2) in
     search needs
 
 enum-known-k-2 : tie.Need-enum-known-k-2
@@ -30,9 +36,8 @@ enum-known-k-2 c = search needs
 position-of-requires-2 : tie.Need-position-of-requires-2
 position-of-requires-2 c κs =
     let start = c .before .before .before in
-    let most = mostReads (start .args .n) in
     let k = c .before .k2 .given in
-    let few = leb-false most (k .0 .1 .0) (sym (ap (overdue most) (k .1)) ∙ start .pre .2) in
+    let few = turns-left (mostReads (start .args .n)) (k .0 .1 .0) (k .1) refl (start .pre .2) in
     search needs
 
 enum-told-2 : tie.Need-enum-told-2
