@@ -6,7 +6,7 @@ use Rattle.dayfile.specs.declared.Reading.{Reading}
 use Rattle.dayfile.specs.declared.Reading.the-variants.{Found, End, Refused}
 use Rattle.dayfile.specs.Reader.{reading}
 use Rattle.dayfile.proofs.Reader.{found-short}
-use Rattle.nq.specs.Replies.{Short}
+use Rattle.numbers.specs.Replies.{Short}
 
 pub reading-short : (bs : List ℕ) → Short (reading bs)
 reading-short bs = go (reading bs) refl

@@ -1,3 +1,2 @@
--- What crosses to other languages. Read in this order.
-pub mod Replies
+-- What the library's functions reply and leave.
 pub mod Requests

@@ -1,29 +1,28 @@
--- A request as numbers, and what it comes to.
+-- What a request by numbers comes to.
 use Prim.Native.Nat.{ℕ}
-use mathlib.Core.Bool.{Bool, cond, not}
+use mathlib.Core.Bool.{cond}
 use mathlib.Core.List.{List, []}
-use lib.Dec.{eqb}
-use Rattle.snapshot.specs.Refusals.{numberOf, outside}
+use Rattle.snapshot.specs.Refusals.{numberOf}
 use Rattle.snapshot.specs.Replies.{replyOf}
 use Rattle.snapshot.specs.Demand.{Result}
 use Rattle.snapshot.specs.Days.{State}
+use Rattle.snapshot.specs.Runs.{RunResult}
 use Rattle.snapshot.specs.declared.Day.{Day}
 use Rattle.snapshot.specs.declared.Refusal.the-variants.{UnknownKind}
-use Rattle.snapshot.specs.declared.Request.{Request}
-use Rattle.snapshot.specs.declared.Request.the-variants.{Open, Update, Scan, Turn}
 use Rattle.requests.specs.Requests.{pageAfter}
 use Rattle.unbounded.specs.declared.Process.{Process}
 use Rattle.packed_table.specs.Tables.{tableAfter, steppedIn}
-use Rattle.nq.specs.declared.ReplyNumbers.{ReplyNumbers}
-use Rattle.nq.specs.Replies.{replyWith, replyNumbers}
+use Rattle.numbers.specs.declared.ReplyNumbers.{ReplyNumbers}
+use Rattle.numbers.specs.Replies.{replyWith, replyNumbers, runNumbers}
+use Rattle.numbers.specs.Requests.{requestNumbered, isKind}
 
--- the kinds are those of day files; an opening has the number asked for in its process. Any other number stands for a turn here:
--- `isKind` is asked first
-abbrev pub requestNumbered : (kind process word : ℕ) → Request
-requestNumbered k d w = cond (eqb k 1) (Open d) (cond (eqb k 2) (Update d w) (cond (eqb k 3) (Scan d) (Turn d)))
+-- the version of the layout of records, of replies and of the functions' parameters
+abbrev pub version : ℕ
+version = 2
 
-abbrev pub isKind : ℕ → Bool
-isKind k = not (outside 1 4 k)
+-- the day that two numbers are
+abbrev pub dayWith : (count event : ℕ) → Day
+dayWith count event = record { count = count; event = event }
 
 -- the reply to a request with result r
 abbrev pub replyTo : Result (State Process) → ReplyNumbers
@@ -43,3 +42,7 @@ module _ (d : Day) (t : List (List ℕ)) (kind process word : ℕ) (page : List 
 
   abbrev pub pageIn : List ℕ
   pageIn = cond (isKind kind) (pageAfter page resultOf (requestNumbered kind process word)) page
+
+-- the reply to a run with result r
+abbrev pub runReply : RunResult (State (List ℕ)) (List ℕ) → ReplyNumbers
+runReply r = runNumbers (r .state .day) (r .refusal)

@@ -8,6 +8,7 @@ pub mod Admitted
 pub mod Demand3
 pub mod Stepped
 pub mod Keeping
+pub mod Runs
 pub mod Booleans
 pub mod Causes
 pub mod Lists

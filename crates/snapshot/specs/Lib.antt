@@ -11,3 +11,4 @@ pub mod Verdict
 pub mod Marks
 pub mod Canonical
 pub mod Book
+pub mod Runs

@@ -32,6 +32,7 @@ pub enum Refusal {
     OpenState,
     CannotArise,
     RoomShort,
+    TableShort,
 }
 
 // The answer to an item. The words of a page lie in the lent page list.
@@ -74,6 +75,7 @@ pub fn number(r: Refusal) -> u32
         Refusal::OpenState => 10,
         Refusal::CannotArise => 11,
         Refusal::RoomShort => 12,
+        Refusal::TableShort => 13,
     }
 }
 

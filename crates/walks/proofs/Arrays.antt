@@ -79,7 +79,7 @@ module _ {M : Type 1} (𝓤 : URA M) (H : Heap 𝓤) (A : Atoms 𝓤) (W : Given
   abbrev size : ℕ
   size = mem T .size
 
-  cut : (m : ℕ) (xs : List (T .Denot)) (b o : ℕ) → ent 𝓤 (sem 𝓤 H A (row T fullShare xs b o))
+  pub cut : (m : ℕ) (xs : List (T .Denot)) (b o : ℕ) → ent 𝓤 (sem 𝓤 H A (row T fullShare xs b o))
       (sep 𝓤 (sem 𝓤 H A (row T fullShare (take m xs) b o))
       (sem 𝓤 H A (row T fullShare (rest-of m xs) b (place-of size o m))))
   cut zero xs b o = qed W (‵ (row T fullShare xs b o) ∷ []) ∵ use0 W (‵ ftrue) (id⊢ 𝓤 (emp 𝓤)) $ done !
@@ -90,7 +90,7 @@ module _ {M : Type 1} (𝓤 : URA M) (H : Heap 𝓤) (A : Atoms 𝓤) (W : Given
       (row T fullShare (rest-of m xs) b (place-of size (o + size) m))) (cut m xs b (o + size)) $
       split ! $ move ! (2 ∷ 0 ∷ []) $ fjoin ! $ done !
 
-  joins : (xs zs : List (T .Denot)) (b o : ℕ) → ent 𝓤 (sep 𝓤 (sem 𝓤 H A (row T fullShare xs b o))
+  pub joins : (xs zs : List (T .Denot)) (b o : ℕ) → ent 𝓤 (sep 𝓤 (sem 𝓤 H A (row T fullShare xs b o))
       (sem 𝓤 H A (row T fullShare zs b (place-of size o (length xs))))) (sem 𝓤 H A (row T fullShare (xs ++ zs) b o))
   joins [] zs b o = qed W (‵ ftrue ∷ ‵ (row T fullShare zs b o) ∷ []) ∵ drop ! $ done !
   joins (x ∷ xs) zs b o =

@@ -51,7 +51,7 @@ module _ {M : Type 1} (𝓤 : URA M) where
   pub asks-nothing : ent 𝓤 (emp 𝓤) (emp 𝓤)
   asks-nothing = id⊢ 𝓤 (emp 𝓤)
 
-  -- two and three facts that are shown
+  -- two, three and four facts that are shown
   pub two-given : {φ ψ : Type 0} → φ → ψ → ent 𝓤 (emp 𝓤) (sep 𝓤 (fact 𝓤 φ) (fact 𝓤 ψ))
   two-given {φ} {ψ} x y = via 𝓤 (sep 𝓤 (emp 𝓤) (fact 𝓤 ψ)) (via 𝓤 (fact 𝓤 ψ) (given y) (emp∗ 𝓤 (fact 𝓤 ψ)))
       (monoL 𝓤 (fact 𝓤 ψ) (given x))
@@ -61,7 +61,13 @@ module _ {M : Type 1} (𝓤 : URA M) where
       let P = sep 𝓤 (fact 𝓤 ψ) (fact 𝓤 χ) in
       via 𝓤 (sep 𝓤 (emp 𝓤) P) (via 𝓤 P (two-given y z) (emp∗ 𝓤 P)) (monoL 𝓤 P (given x))
 
-  -- and that are said, or the first alone
+  pub four-given : {φ ψ χ ω : Type 0} → φ → ψ → χ → ω →
+      ent 𝓤 (emp 𝓤) (sep 𝓤 (fact 𝓤 φ) (sep 𝓤 (fact 𝓤 ψ) (sep 𝓤 (fact 𝓤 χ) (fact 𝓤 ω))))
+  four-given {φ} {ψ} {χ} {ω} x y z w =
+      let P = sep 𝓤 (fact 𝓤 ψ) (sep 𝓤 (fact 𝓤 χ) (fact 𝓤 ω)) in
+      via 𝓤 (sep 𝓤 (emp 𝓤) P) (via 𝓤 P (three-given y z w) (emp∗ 𝓤 P)) (monoL 𝓤 P (given x))
+
+  -- two and three that are said, or the first alone
   pub first-said : {φ ψ : Type 0} → ent 𝓤 (sep 𝓤 (fact 𝓤 φ) (fact 𝓤 ψ)) (fact 𝓤 φ)
   first-said {φ} {ψ} = fst∗ 𝓤 (fact 𝓤 φ) (fact 𝓤 ψ)
 

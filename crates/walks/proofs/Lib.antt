@@ -18,4 +18,6 @@ pub mod Folds
 pub mod Fills
 pub mod Arrays
 pub mod ElementRead
+pub mod SliceParts
+pub mod FourSlices
 pub mod Walking

@@ -11,12 +11,12 @@ use mir.Syntax.{Name, Ty, place, field, Opd as Operand, copy, rvOpd, Body, seq, 
 use mir.Val.{Val, vunit}
 use base.Logic.{ent, emp, id⊢}
 use prog.Memory.{fieldOf}
-use prog.Wp.{Heap, Calls, Loops, spotOf}
+use prog.Wp.{Heap, Calls, Loops, spotOf, next}
 use ghost.Atoms.{Atoms}
 use contract.Lifetimes.{Lfts}
 use contract.Monad.{fact}
-use types.Kit.{Given, Item, Post, raw, nth, _$_, runs, use0, drop}
-use types.Run.{Opd, Opds, stop, fld, from, load, of-opd, no-more}
+use types.Kit.{Given, Item, Post, raw, nth, _$_, runs, post, prop, use0, drop}
+use types.Run.{Opd, Opds, stop, fld, from, load, of-opd, no-more, first}
 use types.Part.{Part, look-in}
 use denote.RattleType.{Denots}
 use denote.Triple.End.{Fins}
@@ -25,8 +25,8 @@ use Rattle.walks.proofs.Frames.{frame, stored, local-part, other, lacki
 use Rattle.walks.proofs.Params.{Cell, holds, spellOf, spelt, Param, slots, kept, Ts}
 use Rattle.walks.proofs.Thin.{Here, Way}
 use Rattle.walks.proofs.Statements.{cellAt, putAt, spelt-at, inside, is-inside, both-true, params, args, Links, Vs}
-use Rattle.walks.proofs.Statements.{read-next, Callee, Asks, Says, calls-by}
-use Rattle.walks.proofs.Rules.{fits-local, lands-in, no-refs, no-lifetimes}
+use Rattle.walks.proofs.Statements.{read-next, Callee, Asks, Says, calls-ending}
+use Rattle.walks.proofs.Rules.{fits-local, settles-in, no-refs, no-lifetimes}
 use Rattle.walks.proofs.Locals.{now-holds}
 use Rattle.walks.proofs.Owned.{Has, offsetOf, field-within, field-of}
 
@@ -108,9 +108,32 @@ module _ {M : Type 1} {𝓤 : URA M} {H : Heap 𝓤} {A : Atoms 𝓤} {K : Type 
       }
 
 module _ {M : Type 1} {𝓤 : URA M} {H : Heap 𝓤} {A : Atoms 𝓤} {K : Type 0} {W : Given 𝓤 H A} {C : Calls 𝓤 H} {Λ : Loops 𝓤 H}
+    {E : List (Ty × ℕ)} {cs : List Cell} {Γ : List (Item 𝓤)} {q : Post 𝓤 H} {f : Name} {os : List Operand} {k : ℕ}
+    {D : Datum} where
+  -- a function of plain data, some of which are fields of locals, that says what its answer is, by a call that ends its part
+  pub gets-parts-last : K → {ds : List Cell} → Seen 𝓤 H E cs any os ds → (g : Callee W C f 0 (params no-refs ds) D) (s : Of D) →
+      (T (inside E k) × (D .ty ≡ spotOf 𝓤 H E k .0)) × Links no-lifetimes no-refs tt ds →
+      ent 𝓤 (emp 𝓤) (Asks g no-lifetimes (args no-lifetimes no-refs tt ds)) →
+      ((r : Of D) (ws : Fins no-lifetimes (slots (params no-refs ds)) (kept (params no-refs ds))
+      (args no-lifetimes no-refs tt ds)) →
+      ent 𝓤 (Says g no-lifetimes (args no-lifetimes no-refs tt ds) r ws) (fact 𝓤 (r ≡ s))) →
+      ((is : Fine D s) → Here K W E (putAt cs k (holds D s is)) Γ (prop (post 𝓤 H q next))) →
+      Here K W E cs Γ (runs C Λ E (call f os (place k [])) q)
+  gets-parts-last t {ds} sees g s ok asks says go = record {
+    seq =
+        use0 W (raw (emp 𝓤)) (id⊢ 𝓤 (emp 𝓤)) $
+        calls-ending t no-lifetimes tt no-refs tt tt E ds (frame E (spelt cs) ∷ Γ)
+        (λ P. read-seen cs any 1 (λ j u. frame E (stored (spelt cs) j (some u)))
+        (λ j v h is. frame-parts 𝓤 H A W E cs K j v h is) t no-lifetimes no-refs tt os ds sees (ok .1)) (ok .1) g asks
+        (λ r ws. r ≡ s) says (λ r ws e is. drop t $ settles-in t cs D k (ok .0 .0) (ok .0 .1) r is
+        (subst (λ (z : Of D). (is : Fine D z) → Here K W E (putAt cs k (holds D z is)) Γ (prop (post 𝓤 H q next))) (sym e) go
+        is));
+  }
+
+module _ {M : Type 1} {𝓤 : URA M} {H : Heap 𝓤} {A : Atoms 𝓤} {K : Type 0} {W : Given 𝓤 H A} {C : Calls 𝓤 H} {Λ : Loops 𝓤 H}
     {E : List (Ty × ℕ)} {cs : List Cell} {Γ : List (Item 𝓤)} {q : Post 𝓤 H} {f : Name} {os : List Operand} {k : ℕ} {rest : Body}
     {D : Datum} where
-  -- a function of plain data, some of which are fields of locals, that says what its answer is
+  -- and by one that is followed by more
   pub gets-parts : K → {ds : List Cell} → Seen 𝓤 H E cs any os ds → (g : Callee W C f 0 (params no-refs ds) D) (s : Of D) →
       (T (inside E k) × (D .ty ≡ spotOf 𝓤 H E k .0)) × Links no-lifetimes no-refs tt ds →
       ent 𝓤 (emp 𝓤) (Asks g no-lifetimes (args no-lifetimes no-refs tt ds)) →
@@ -119,12 +142,6 @@ module _ {M : Type 1} {𝓤 : URA M} {H : Heap 𝓤} {A : Atoms 𝓤} {K : Type 
       ent 𝓤 (Says g no-lifetimes (args no-lifetimes no-refs tt ds) r ws) (fact 𝓤 (r ≡ s))) →
       ((is : Fine D s) → Here K W E (putAt cs k (holds D s is)) Γ (runs C Λ E rest q)) →
       Here K W E cs Γ (runs C Λ E (seq (call f os (place k [])) rest) q)
-  gets-parts t {ds} sees g s ok asks says go = record {
-    seq =
-        use0 W (raw (emp 𝓤)) (id⊢ 𝓤 (emp 𝓤)) $
-        calls-by t no-lifetimes tt no-refs tt tt E ds (frame E (spelt cs) ∷ Γ)
-        (λ P. read-seen cs any 1 (λ j u. frame E (stored (spelt cs) j (some u)))
-        (λ j v h is. frame-parts 𝓤 H A W E cs K j v h is) t no-lifetimes no-refs tt os ds sees (ok .1)) (ok .1) g asks
-        (λ r ws. r ≡ s) says (λ r ws e is. drop t $ lands-in t cs D k (ok .0 .0) (ok .0 .1) r is
-        (subst (λ (z : Of D). (is : Fine D z) → Here K W E (putAt cs k (holds D z is)) Γ (runs C Λ E rest q)) (sym e) go is));
+  gets-parts t sees g s ok asks says go = record {
+    seq = first t $ gets-parts-last t sees g s ok asks says (λ is. record { seq = record { prf = go is .seq .prf } }) .seq;
   }

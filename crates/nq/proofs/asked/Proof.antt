@@ -4,7 +4,7 @@ use mathlib.Core.List.{[]}
 use Rattle.snapshot.specs.Replies.{replyOf}
 use Rattle.requests.specs.Requests.{pageAfter}
 use Rattle.packed_table.specs.Tables.{steppedIn, tableAfter}
-use Rattle.nq.specs.Replies.{replyWith, replyNumbers}
+use Rattle.numbers.specs.Replies.{replyWith, replyNumbers}
 use Rattle.nq.specs.Requests.{replyTo}
 use borrow.Author.Needs.{needs}
 use Rattle.nq.proofs.asked.Statement.{statement}

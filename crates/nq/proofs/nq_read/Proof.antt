@@ -1,7 +1,7 @@
 -- `nq::nq_read` meets its contract.
 use mathlib.Core.Path.{sym, ap, subst, _∙_}
 use Rattle.dayfile.specs.Reader.{readerReply}
-use Rattle.nq.specs.Replies.{Short, recordNumbers}
+use Rattle.numbers.specs.Replies.{Short, recordNumbers}
 use Rattle.nq.proofs.Shortness.{reading-short}
 use borrow.Author.Needs.{needs}
 use Rattle.nq.proofs.nq_read.Statement.{statement}

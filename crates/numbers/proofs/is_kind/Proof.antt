@@ -1,7 +1,7 @@
--- `nq::is_kind` meets its contract.
+-- `numbers::is_kind` meets its contract.
 use borrow.Author.Tests.{lt-ltb, le-ltb}
-use Rattle.nq.proofs.is_kind.Statement.{statement}
-use Rattle.nq.proofs.is_kind.Tie as tie
+use Rattle.numbers.proofs.is_kind.Statement.{statement}
+use Rattle.numbers.proofs.is_kind.Tie as tie
 
 returns : tie.Need-returns
 returns c = simp (lt-ltb _ _ (c .if1 .taken))

@@ -1,11 +1,11 @@
--- `nq::reply_of` meets its contract.
+-- `numbers::reply_of` meets its contract.
 use mathlib.Core.Path.{sym, ap, _∙_}
 use mathlib.Core.List.{[]}
 use Rattle.snapshot.specs.Replies.{replyOf}
-use Rattle.nq.specs.Replies.{replyWith, replyNumbers}
+use Rattle.numbers.specs.Replies.{replyWith, replyNumbers}
 use borrow.Author.Needs.{needs}
-use Rattle.nq.proofs.reply_of.Statement.{statement}
-use Rattle.nq.proofs.reply_of.Tie as tie
+use Rattle.numbers.proofs.reply_of.Statement.{statement}
+use Rattle.numbers.proofs.reply_of.Tie as tie
 
 enum-known-answer : tie.Need-enum-known-answer
 enum-known-answer c = search needs

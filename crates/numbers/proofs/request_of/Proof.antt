@@ -1,7 +1,7 @@
--- `nq::request_of` meets its contract.
+-- `numbers::request_of` meets its contract.
 use borrow.Author.Tests.{eq-eqb, ne-eqb}
-use Rattle.nq.proofs.request_of.Statement.{statement}
-use Rattle.nq.proofs.request_of.Tie as tie
+use Rattle.numbers.proofs.request_of.Statement.{statement}
+use Rattle.numbers.proofs.request_of.Tie as tie
 
 returns : tie.Need-returns
 returns c = simp (eq-eqb _ _ (c .if1 .taken))

@@ -1,11 +1,11 @@
--- `nq::record_of` meets its contract.
+-- `numbers::record_of` meets its contract.
 use native.Mathlib.Omega.{arith}
 use mathlib.Core.Path.{sym, ap, subst, _∙_}
 use Rattle.dayfile.specs.Reader.{readerReply}
-use Rattle.nq.specs.Replies.{Short, recordWith, recordNumbers}
+use Rattle.numbers.specs.Replies.{Short, recordWith, recordNumbers}
 use borrow.Author.Needs.{needs}
-use Rattle.nq.proofs.record_of.Statement.{statement}
-use Rattle.nq.proofs.record_of.Tie as tie
+use Rattle.numbers.proofs.record_of.Statement.{statement}
+use Rattle.numbers.proofs.record_of.Tie as tie
 
 enum-known-x : tie.Need-enum-known-x
 enum-known-x c = search needs

@@ -1,9 +1,9 @@
--- `nq::request_numbers` meets its contract.
+-- `numbers::request_numbers` meets its contract.
 use mathlib.Core.Path.{sym, ap, _∙_}
-use Rattle.nq.specs.Replies.{requestNumbers}
+use Rattle.numbers.specs.Replies.{requestNumbers}
 use borrow.Author.Needs.{needs}
-use Rattle.nq.proofs.request_numbers.Statement.{statement}
-use Rattle.nq.proofs.request_numbers.Tie as tie
+use Rattle.numbers.proofs.request_numbers.Statement.{statement}
+use Rattle.numbers.proofs.request_numbers.Tie as tie
 
 enum-known-x : tie.Need-enum-known-x
 enum-known-x c = search needs

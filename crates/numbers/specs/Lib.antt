@@ -1,0 +1,3 @@
+-- What crosses to other languages, by numbers. Read in this order.
+pub mod Replies
+pub mod Requests

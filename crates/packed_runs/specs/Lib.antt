@@ -1,0 +1,2 @@
+-- A run of turns on a table of packed records.
+pub mod Runs

@@ -1,0 +1,52 @@
+-- A run of turns (document 02, K4) on a table of packed records: the run of the definitions, each turn's table packed by the step that
+-- gave it, and each answer as the numbers of its reply.
+use Prim.Native.Nat.{ℕ}
+use mathlib.Core.List.{List, []}
+use lib.ListN.{length, take, drop}
+use Rattle.snapshot.specs.declared.Day.{Day}
+use Rattle.snapshot.specs.declared.Answer.{Answer}
+use Rattle.snapshot.specs.declared.Request.the-variants.{Turn}
+use Rattle.snapshot.specs.Refusals.{firstCause}
+use Rattle.snapshot.specs.Replies.{replyOf}
+use Rattle.snapshot.specs.Demand.{Result}
+use Rattle.snapshot.specs.Days.{State}
+use Rattle.snapshot.specs.Runs.{RunResult, runCauses, runUnless}
+use Rattle.unbounded.specs.declared.Process.{Process}
+use Rattle.packed_table.specs.Tables.{tableAfter, steppedIn}
+use Rattle.runs.specs.declared.Plan.{Plan}
+use Rattle.runs.specs.declared.Reached.{Reached}
+use Rattle.runs.specs.declared.RunOutcome.{RunOutcome}
+use Rattle.runs.specs.Plans.{checkOf, outcomeAt}
+use Rattle.numbers.specs.Replies.{replyNumbers, replyWords}
+
+-- a turn of process d on words: its outcome and its page are those of the step on the records that they are
+abbrev pub giveIn : State (List ℕ) → ℕ → List ℕ → Result (State (List ℕ))
+giveIn s d page =
+    let r = steppedIn (s .day) (s .table) (Turn d) page in
+    record {
+      state = record { day = r .state .day; table = tableAfter (s .table) (Turn d) r };
+      answer = r .answer;
+      page = r .page;
+    }
+
+-- the reply that a turn is answered, as it lies in a table of replies: the day after it, and its answer
+abbrev pub replyWith : Day → Answer → List ℕ
+replyWith d a = replyWords (replyNumbers d (replyOf [] a))
+
+abbrev pub toldIn : {P : Type 0} → Result (State P) → List ℕ
+toldIn r = replyWith (r .state .day) (r .answer)
+
+unfoldable pub runIn : Day → (table : List (List ℕ)) → List ℕ → (replies : List (List ℕ)) → (pages : List ℕ) →
+    RunResult (State (List ℕ)) (List ℕ)
+runIn d t ds replies pages =
+    let n = d .count in
+    runUnless giveIn toldIn n (firstCause (runCauses n (length t) n (length ds) (length replies) (length pages)))
+    (record { day = d; table = t }) ds replies pages
+
+-- the day, and the refusal of the run itself, if any
+abbrev pub runOutcomeOf : RunResult (State (List ℕ)) (List ℕ) → RunOutcome
+runOutcomeOf r = outcomeAt (r .state .day) (checkOf (r .refusal))
+
+-- the turn of process d where a run has come so far
+abbrev pub turnAt : Reached → Plan → List (List ℕ) → ℕ → List ℕ → Result (State Process)
+turnAt at plan t d pages = steppedIn (at .day) t (Turn d) (take (plan .page) (drop (at .words) pages))

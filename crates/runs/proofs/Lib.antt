@@ -1,0 +1,5 @@
+-- What the functions of this crate need.
+pub mod Halves
+pub mod Onward
+pub mod Fitting
+pub mod Going

@@ -1,0 +1,17 @@
+-- `runs::is_cramped` meets its contract.
+use borrow.Author.Needs.{needs}
+use borrow.Author.Tests.{lt-ltb, le-ltb}
+use Rattle.runs.proofs.is_cramped.Statement.{statement}
+use Rattle.runs.proofs.is_cramped.Tie as tie
+
+returns : tie.Need-returns
+returns c = simp (lt-ltb _ _ (c .if1 .taken))
+
+lacks-words-requires : tie.Need-lacks-words-requires
+lacks-words-requires c κs = search needs
+
+returns-2 : tie.Need-returns-2
+returns-2 c = simp (le-ltb _ _ (c .before .if1 .left), c .lacks-words .ensures)
+
+pub is-cramped-spec : {M : Type 1} → statement M
+is-cramped-spec = tie.close (tie.spec returns lacks-words-requires returns-2)
