@@ -1,5 +1,5 @@
-/* A day for two desks: desk 1 writes 7 to its row, then desk 2 reads a page. It prints one line an
- * answer, as the day runner does.
+/* A day for two desks: desk 1 writes 7 to its row, then desk 2 reads a page; after that both are at it
+ * together, and have their turns in one run. It prints one line an answer, as the day runner does.
  *
  *     cc -std=c99 -Wall -Wextra -pedantic -o example bindings/c/example.c target/staticlib/libnq.a */
 #include <inttypes.h>
@@ -9,6 +9,7 @@
 #include "nelvaquist.h"
 
 #define DESKS 2
+#define TURNS 10
 
 /* All that the register knows. The last reply has the day, a blank one at first. */
 static struct nq_reply last;
@@ -24,32 +25,52 @@ static void expect(int holds, const char *what)
     }
 }
 
-/* Gives a desk a turn and prints what it is answered. */
-static void turn(uint32_t desk)
+/* Prints what a turn of a desk was answered, with these words if it is a page. */
+static void print(uint32_t desk, struct nq_reply reply, const uint32_t *words)
 {
     int i;
 
-    last = nq_turn(last.count, last.event, table, DESKS, desk, page, DESKS);
-    switch (last.answer) {
+    switch (reply.answer) {
     case NQ_REFUSED:
-        printf("refused %" PRIu32 "\n", last.refusal);
+        printf("refused %" PRIu32 "\n", reply.refusal);
         break;
     case NQ_READ:
-        printf("%" PRIu32 " read %" PRIu32 "\n", last.event, desk);
+        printf("%" PRIu32 " read %" PRIu32 "\n", reply.event, desk);
         break;
     case NQ_WRITTEN:
-        printf("%" PRIu32 " written %" PRIu32 " turns %" PRIu32 "\n", last.event, desk, last.turns);
+        printf("%" PRIu32 " written %" PRIu32 " turns %" PRIu32 "\n", reply.event, desk, reply.turns);
         break;
     case NQ_PAGE:
-        printf("%" PRIu32 " page %" PRIu32 " from %" PRIu32, last.event, desk, last.lender);
-        printf(" at %" PRIu32 " turns %" PRIu32 " words", last.at, last.turns);
+        printf("%" PRIu32 " page %" PRIu32 " from %" PRIu32, reply.event, desk, reply.lender);
+        printf(" at %" PRIu32 " turns %" PRIu32 " words", reply.at, reply.turns);
         for (i = 0; i < DESKS; i++)
-            printf(" %" PRIu32, page[i]);
+            printf(" %" PRIu32, words[i]);
         printf("\n");
         break;
     default:
         expect(0, "a turn is refused, reads, shows a page or writes a row");
     }
+}
+
+/* Gives a desk a turn and prints what it is answered. */
+static void turn(uint32_t desk)
+{
+    last = nq_turn(last.count, last.event, table, DESKS, desk, page, DESKS);
+    print(desk, last, page);
+}
+
+/* Gives the desks of a list their turns at once and prints what each is answered. */
+static void run(const uint32_t desks[TURNS])
+{
+    static struct nq_reply replies[TURNS];
+    static uint32_t pages[TURNS * DESKS];
+    int i;
+
+    last = nq_run(last.count, last.event, table, DESKS, desks, TURNS, replies, TURNS, pages,
+                  TURNS * DESKS);
+    expect(last.answer == NQ_RAN, "the run is given");
+    for (i = 0; i < TURNS; i++)
+        print(desks[i], replies[i], &pages[i * DESKS]);
 }
 
 int main(void)
@@ -82,6 +103,15 @@ int main(void)
     turn(2);
     expect(last.refusal == NQ_DESK_IDLE, "a desk without a call is given no turn");
     expect(last.count == DESKS && last.event == 11, "a refusal leaves the day as it was");
+
+    last = nq_entry(last.count, last.event, table, DESKS, 1, 8);
+    expect(last.answer == NQ_CALLED, "desk 1's second entry call is taken");
+    printf("%" PRIu32 " entry 1 8\n", last.event);
+    last = nq_page(last.count, last.event, table, DESKS, 2);
+    expect(last.answer == NQ_CALLED, "desk 2's second page call is taken");
+    printf("%" PRIu32 " asked 2\n", last.event);
+    run((const uint32_t[TURNS]){1, 2, 1, 2, 1, 2, 1, 2, 1, 2});
+    expect(table[0].row.word == 8 && last.event == 22, "row 1 is written, and nine turns had numbers");
     printf("end %" PRIu32 "\n", last.event);
     return 0;
 }

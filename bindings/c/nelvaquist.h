@@ -14,17 +14,22 @@
  *   the table      n desk records, that of desk 1 first: an array, or calloc(n, sizeof *table)
  *   the page list  words in which a page is answered, for turns only
  *
+ * Many turns can be given at once, as a run (nq_run), which takes a list of desks and, in place of a
+ * page list, two tables for what the turns answer.
+ *
  * The library keeps nothing between calls, allocates nothing and does no input or output. What it is
- * lent stays the caller's. Calls on different tables and page lists may run at once in any threads.
- * It needs memcpy and memset, and less than 4 KiB of stack.
+ * lent stays the caller's. Calls that are lent different things may run at once in any threads. It
+ * needs memcpy and memset, and less than 4 KiB of stack.
  *
  * The caller must hold to this, even for a request that will be refused:
  *
- *   - table, page and bytes are not null and are aligned for their type, even if their length is 0;
- *   - table points to `records` whole records, page to `words` words, bytes to `length` bytes, all
- *     initialised;
- *   - table and page list do not overlap;
- *   - nobody else reads or writes table or page list, or writes bytes, during the call;
+ *   - table, page, desks, replies, pages and bytes are not null and are aligned for their type, even
+ *     if their length is 0;
+ *   - table points to `records` whole records, page or pages to `words` words, desks to `turns` desk
+ *     numbers, replies to `places` whole replies, bytes to `length` bytes, all initialised;
+ *   - no two things that a call is lent overlap;
+ *   - nobody else reads or writes table, page, replies or pages, or writes desks or bytes, during the
+ *     call;
  *   - nq_version() is NQ_VERSION: with a library of another version nothing here holds.
  *
  * Nothing else is asked. Every number and every word may be anything: what does not fit is refused,
@@ -42,8 +47,8 @@ extern "C" {
 #endif
 
 /* Changes whenever a function, a parameter or the layout of a struct here does. Tables are kept for one
- * version. */
-#define NQ_VERSION 1
+ * version; but version 2 only adds nq_run, and takes tables of version 1. */
+#define NQ_VERSION 2
 
 #define NQ_MOST_DESKS 8
 #define NQ_LAST_EVENT 65535 /* the number of the last event that a day can have */
@@ -98,44 +103,48 @@ enum nq_answer {
     NQ_CALLED = 2,  /* the entry or page call is taken */
     NQ_READ = 3,    /* the turn read a row, and the call needs more turns */
     NQ_PAGE = 4,    /* the turn ended a page: `lender`, `at`, `turns`; its words are in the list */
-    NQ_WRITTEN = 5  /* the turn wrote the desk's row and ended an entry: `turns` */
+    NQ_WRITTEN = 5, /* the turn wrote the desk's row and ended an entry: `turns` */
+    NQ_RAN = 6      /* the run was given; the replies to its turns are in its table */
 };
 
 /* Why a request or a day file is refused. The numbers stay as they are; later versions may add some.
  *
  * Where several apply, the first in this order is given. A kind that is none: 8. Opening: 10, 1, 6.
- * Call: 10, 6, 11, 2, 3, 5. Turn: 10, 6, 11, 2, 4. Day file: 7 if one byte is left, 9 if the length is
- * outside 4 to 8, 7, 8, then 9.
+ * Call: 10, 6, 11, 2, 3, 5. Turn: 10, 6, 11, 2, 4. Run: 10, 6, 13. Day file: 7 if one byte is left, 9
+ * if the length is outside 4 to 8, 7, 8, then 9. Nothing here is refused with 12.
  *
  * A page owes 2n*n turns and an entry 2n*n + 1, less the turns that it has had. It can end sooner. */
 enum nq_refusal {
-    NQ_DESK_COUNT = 1,   /* The desk count asked for is outside 1 to 8. */
-    NQ_NO_SUCH_DESK = 2, /* The desk number is outside 1 to n. */
-    NQ_DESK_BUSY = 3,    /* The desk that calls has a call under way. */
-    NQ_DESK_IDLE = 4,    /* The desk that is given a turn has no call under way. */
-    NQ_DAY_FULL = 5,     /* The day has too few events left for another call: the event number, 1 for
-                            the call, all turns owed and those that the call would owe are more than
-                            65,535. Calls under way can always be ended on the same day, so finish
-                            them; if they end sooner than they could, a call may be taken again. A
-                            new day is opened with count and event 0; rows are lost. */
-    NQ_LENT_SIZE = 6,    /* The table has not exactly n records (when opening, as many as asked for),
-                            or the page list of a turn has fewer than n words. */
-    NQ_CUT_SHORT = 7,    /* The day file ends within a request. */
-    NQ_UNKNOWN_KIND = 8, /* The kind is none of 1 to 4. */
-    NQ_WRONG_LENGTH = 9, /* In a day file, a length outside 4 to 8, or not that of its kind. */
-    NQ_OPEN_STATE = 10,  /* A call or a turn on a day that is not open, or an opening of one that is. */
-    NQ_CANNOT_ARISE = 11 /* The day cannot have arisen: the desk count is above 8, the event number is
-                            above 65,535, or in a record the row's seq or at is above the event number,
-                            the task is unknown, or it has had more than 2n*n - 1 turns, 2n*n if it is
-                            an entry ready to write; or the event number and all turns owed are more
-                            than 65,535. */
+    NQ_DESK_COUNT = 1,    /* The desk count asked for is outside 1 to 8. */
+    NQ_NO_SUCH_DESK = 2,  /* The desk number is outside 1 to n. */
+    NQ_DESK_BUSY = 3,     /* The desk that calls has a call under way. */
+    NQ_DESK_IDLE = 4,     /* The desk that is given a turn has no call under way. */
+    NQ_DAY_FULL = 5,      /* The day has too few events left for another call: the event number, 1 for
+                             the call, all turns owed and those that the call would owe are more than
+                             65,535. Calls under way can always be ended on the same day, so finish
+                             them; if they end sooner than they could, a call may be taken again. A
+                             new day is opened with count and event 0; rows are lost. */
+    NQ_LENT_SIZE = 6,     /* The table has not exactly n records (when opening, as many as asked for),
+                             or the page list of a turn has fewer than n words. */
+    NQ_CUT_SHORT = 7,     /* The day file ends within a request. */
+    NQ_UNKNOWN_KIND = 8,  /* The kind is none of 1 to 4. */
+    NQ_WRONG_LENGTH = 9,  /* In a day file, a length outside 4 to 8, or not that of its kind. */
+    NQ_OPEN_STATE = 10,   /* A call, a turn or a run on a day that is not open, or an opening of one
+                             that is. */
+    NQ_CANNOT_ARISE = 11, /* The day cannot have arisen: the desk count is above 8, the event number is
+                             above 65,535, or in a record the row's seq or at is above the event number,
+                             the task is unknown, or it has had more than 2n*n - 1 turns, 2n*n if it is
+                             an entry ready to write; or the event number and all turns owed are more
+                             than 65,535. */
+    NQ_TABLE_SHORT = 13   /* A run is lent fewer replies than it has turns, or fewer than n words of
+                             pages for each turn. */
 };
 
 /* The reply to a request. What an answer does not have is 0. */
 struct nq_reply {
     uint32_t count;   /* the day's desk count after the request */
     uint32_t event;   /* the day's event number after it: the number of the call or turn, if accepted */
-    uint32_t answer;  /* NQ_REFUSED to NQ_WRITTEN */
+    uint32_t answer;  /* NQ_REFUSED to NQ_RAN */
     uint32_t refusal; /* if refused, why */
     uint32_t lender;  /* of a page: the desk from which it was borrowed, 0 if from none */
     uint32_t at;      /* of a page: its instant, which is right after the event of this number, later
@@ -173,6 +182,17 @@ struct nq_reply nq_turn(uint32_t count, uint32_t event, struct nq_desk *table, s
  * uses `word`, and only a turn the page list. A kind that is none of 1 to 4 is refused (8). */
 struct nq_reply nq_step(uint32_t count, uint32_t event, struct nq_desk *table, size_t records,
                         uint32_t kind, uint32_t desk, uint32_t word, uint32_t *page, size_t words);
+
+/* A run of turns: one for each desk number in the list `desks`, in order. All is as if each were given
+ * by nq_turn, on what the one before left. The reply to turn i, from 0, is put in replies[i], and the
+ * words of a page that it answers in pages[n * i] to pages[n * i + n - 1]. After a turn that is refused
+ * the next one follows. All other replies and pages stay.
+ *
+ * The function's own reply is NQ_RAN with the day after the run, even if every turn was refused or there
+ * is none. Only 10, 6 and 13 refuse the run itself, and then nothing is changed. */
+struct nq_reply nq_run(uint32_t count, uint32_t event, struct nq_desk *table, size_t records,
+                       const uint32_t *desks, size_t turns, struct nq_reply *replies, size_t places,
+                       uint32_t *pages, size_t words);
 
 /* What stands at a place of a day file: a request, the end (everything is 0), or a refusal. */
 struct nq_request {

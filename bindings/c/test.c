@@ -1,6 +1,7 @@
 /* Holds nelvaquist.h to what the library does. Days are driven through it, every request in both
- * ways, by its kind and by its own function, and what it leaves is compared in every word with what
- * is wanted, which is put by the names of the header and worked out by hand.
+ * ways, by its kind and by its own function, every run also turn by turn, and what it leaves is
+ * compared in every word with what is wanted, which is put by the names of the header and worked out
+ * by hand.
  *
  *     cc -std=c99 -Wall -Wextra -pedantic -o test bindings/c/test.c target/staticlib/libnq.a */
 #include <stdio.h>
@@ -12,6 +13,7 @@
 #define RECORD_WORDS 208
 #define ROOM 10    /* more records and page words than any day has; those that are not lent stay */
 #define NO_WORD 77 /* the word of a request that has none */
+#define LIST 14    /* more turns than any run has; replies and pages that are not lent stay */
 
 #define CHECK(holds) check(holds, #holds, __LINE__)
 
@@ -22,8 +24,17 @@ struct state {
     uint32_t page[ROOM];
 };
 
+/* What a run is lent beside the day and its table. */
+struct run {
+    uint32_t turns, places, words; /* how much of the list and of the two tables is lent */
+    uint32_t desks[LIST];
+    struct nq_reply replies[LIST];
+    uint32_t pages[LIST * ROOM];
+};
+
 static struct state now;    /* what the requests have left */
 static struct state wanted; /* what they should have left */
+static struct run lent;     /* what a run has left */
 
 /* Answers that have nothing more. */
 static const struct nq_reply opened = {.answer = NQ_OPENED};
@@ -194,6 +205,76 @@ static void make_idle(struct nq_desk *own)
         own->kept_view[i] = 0;
     }
     memset(own->marks, 0, sizeof own->marks);
+}
+
+/* Lends a run these turns, and so many replies and words of pages, whatever stands in them. */
+static void lend_run(uint32_t turns, const uint32_t *desks, uint32_t places, uint32_t words)
+{
+    uint32_t i;
+
+    memset(&lent, 0, sizeof lent);
+    lent.turns = turns;
+    lent.places = places;
+    lent.words = words;
+    for (i = 0; i < turns; i++)
+        lent.desks[i] = desks[i];
+    for (i = 0; i < LIST; i++)
+        lent.replies[i] = (struct nq_reply){5, 5, 5, 5, 5, 5, 5};
+    for (i = 0; i < LIST * ROOM; i++)
+        lent.pages[i] = 99;
+}
+
+/* Gives the run. Whether it is answered so, and leaves this state and these tables in every word. */
+static int run_leaves(struct nq_reply answer, const struct state *state, const struct run *tables)
+{
+    struct nq_reply reply = nq_run(now.count, now.event, now.table, now.records, lent.desks,
+                                   lent.turns, lent.replies, lent.places, lent.pages, lent.words);
+
+    answer.count = state->count;
+    answer.event = state->event;
+    now.count = reply.count;
+    now.event = reply.event;
+    return memcmp(&reply, &answer, sizeof answer) == 0 && same(&now, state) &&
+           memcmp(&lent, tables, sizeof lent) == 0;
+}
+
+/* Whether the run is given and leaves what its turns leave one by one. */
+static int runs(void)
+{
+    static const struct nq_reply ran = {.answer = NQ_RAN};
+    struct state s = now;
+    struct run left = lent;
+    uint32_t i;
+
+    for (i = 0; i < lent.turns; i++) {
+        left.replies[i] = nq_turn(s.count, s.event, s.table, s.records, lent.desks[i],
+                                  left.pages + i * s.count, s.count);
+        s.event = left.replies[i].event;
+    }
+    return run_leaves(ran, &s, &left);
+}
+
+/* Whether the run is refused with this number and changes nothing. */
+static int refuses_run(uint32_t refusal)
+{
+    struct nq_reply refused = {.answer = NQ_REFUSED, .refusal = refusal};
+    struct state before = now;
+    struct run tables = lent;
+
+    return run_leaves(refused, &before, &tables);
+}
+
+/* Whether the run is given and each of its turns refused with this number. */
+static int refuses_turns(uint32_t refusal)
+{
+    uint32_t i;
+
+    if (!runs())
+        return 0;
+    for (i = 0; i < lent.turns; i++)
+        if (lent.replies[i].answer != NQ_REFUSED || lent.replies[i].refusal != refusal)
+            return 0;
+    return 1;
 }
 
 /* Every field is of words and has its place among them, and nothing is padded. */
@@ -449,6 +530,98 @@ static void records_refused(void)
     CHECK(refuses_above(NQ_READY_ENTRY, &other->task, NQ_IDLE));
 }
 
+/* Desk 1 reads a page and desk 2 makes an entry in one run, with turns between that are refused. */
+static void run_of_turns(void)
+{
+    static const uint32_t desks[] = {1, 2, 3, 1, 2, 1, 2, 1, 1, 2, 2, 0};
+    static const struct nq_reply replies[] = {
+        {.count = 2, .event = 15, .answer = NQ_READ},
+        {.count = 2, .event = 16, .answer = NQ_READ},
+        {.count = 2, .event = 16, .answer = NQ_REFUSED, .refusal = NQ_NO_SUCH_DESK},
+        {.count = 2, .event = 17, .answer = NQ_READ},
+        {.count = 2, .event = 18, .answer = NQ_READ},
+        {.count = 2, .event = 19, .answer = NQ_READ},
+        {.count = 2, .event = 20, .answer = NQ_READ},
+        {.count = 2, .event = 21, .answer = NQ_PAGE, .at = 17, .turns = 4},
+        {.count = 2, .event = 21, .answer = NQ_REFUSED, .refusal = NQ_DESK_IDLE},
+        {.count = 2, .event = 22, .answer = NQ_READ},
+        {.count = 2, .event = 23, .answer = NQ_WRITTEN, .turns = 5},
+        {.count = 2, .event = 23, .answer = NQ_REFUSED, .refusal = NQ_NO_SUCH_DESK}};
+    struct run left;
+
+    lend(2, 2, 99);
+    CHECK(opens(2) && enters(1, 11) && enters(2, 22));
+    wanted.table[0].row = (struct nq_row){.word = 11, .seq = 1, .view = {0, 0}, .at = 3};
+    wanted.table[1].row = (struct nq_row){.word = 24, .seq = 2, .view = {11, 22}, .at = 18};
+    CHECK(answers(called, NQ_ASK_PAGE, 1, NO_WORD) && answers(called, NQ_ASK_ENTRY, 2, 24));
+    wanted.event = 23;
+    lend_run(12, desks, 13, 25);
+    left = lent;
+    memcpy(left.replies, replies, sizeof replies);
+    left.pages[7 * 2] = 11;
+    left.pages[7 * 2 + 1] = 22;
+    CHECK(runs() && same(&now, &wanted) && memcmp(&lent, &left, sizeof lent) == 0);
+}
+
+/* A run on the day of two desks, which begins at this event number. */
+static void lend_three_turns(uint32_t event, uint32_t places, uint32_t words)
+{
+    two_desks(event);
+    lend_run(3, (uint32_t[]){2, 1, 3}, places, words);
+}
+
+/* Runs with tables that are just long enough, longer or too short, and each refusal, where those after
+ * it in the order have their causes too. */
+static void runs_refused(void)
+{
+    lend_three_turns(9, 3, 6);
+    CHECK(runs() && lent.replies[0].answer == NQ_WRITTEN);
+    CHECK(lent.replies[1].refusal == NQ_DESK_IDLE && lent.replies[2].refusal == NQ_NO_SUCH_DESK);
+    lend_three_turns(9, LIST, LIST * ROOM);
+    CHECK(runs());
+    lend_three_turns(9, 2, 6);
+    CHECK(refuses_run(NQ_TABLE_SHORT));
+    lend_three_turns(9, 3, 5);
+    CHECK(refuses_run(NQ_TABLE_SHORT));
+    lend_three_turns(NQ_LAST_EVENT + 1, 3, 6);
+    CHECK(refuses_turns(NQ_CANNOT_ARISE));
+    lend_three_turns(NQ_LAST_EVENT + 1, 2, 5);
+    CHECK(refuses_run(NQ_TABLE_SHORT));
+    now.records = 1;
+    CHECK(refuses_run(NQ_LENT_SIZE));
+    now.records = 3;
+    CHECK(refuses_run(NQ_LENT_SIZE));
+    now.count = 0;
+    CHECK(refuses_run(NQ_OPEN_STATE));
+}
+
+/* A run without turns, which needs no tables. */
+static void empty_run(void)
+{
+    struct state before;
+
+    two_desks(9);
+    before = now;
+    lend_run(0, NULL, 0, 0);
+    CHECK(runs() && same(&now, &before));
+    now.records = 1;
+    CHECK(refuses_run(NQ_LENT_SIZE));
+    now.count = 0;
+    CHECK(refuses_run(NQ_OPEN_STATE));
+}
+
+/* A count above 8 refuses the turns of a run, but not the run. */
+static void run_of_too_many_desks(void)
+{
+    lend(NQ_MOST_DESKS + 1, 0, 3);
+    now.count = NQ_MOST_DESKS + 1;
+    now.event = 9;
+    lend_run(2, (uint32_t[]){1, 0}, 2, 2 * now.count);
+    CHECK(refuses_turns(NQ_CANNOT_ARISE));
+    lend_run(2, (uint32_t[]){1, 0}, 2, 2 * now.count - 1);
+    CHECK(refuses_run(NQ_TABLE_SHORT));
+}
+
 /* A day file with a request of each kind, read to its end. */
 static void day_file(void)
 {
@@ -511,6 +684,10 @@ int main(void)
     openings_refused();
     calls_and_turns_refused();
     records_refused();
+    run_of_turns();
+    runs_refused();
+    empty_run();
+    run_of_too_many_desks();
     day_file();
     day_files_refused();
     printf("the library does what the header says\n");

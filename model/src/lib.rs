@@ -1,7 +1,7 @@
 //! A model of the register, written from documents 01 and 02 and Figure 3 alone, in the plainest way
-//! (`register`, `dayfile`, `runner`, and `closing` for the end of the day), and of the day's book,
-//! from document 02 and Figure 1 (`book`, `claims`, `automaton`). It is the other side of the
-//! comparison with the proved register.
+//! (`register`, `dayfile`, `runner`, `runs` for turns that are given at once, and `closing` for the
+//! end of the day), and of the day's book, from document 02 and Figure 1 (`book`, `claims`,
+//! `automaton`). It is the other side of the comparison with the proved register.
 //! `baseline` is a fast day runner, which is held to the model and measures speed alone.
 
 pub mod automaton;
@@ -19,4 +19,5 @@ pub mod program;
 pub mod random;
 pub mod register;
 pub mod runner;
+pub mod runs;
 pub mod text;

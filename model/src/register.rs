@@ -41,6 +41,9 @@ pub enum Refusal {
     OpenOrNot = 10,
     /// "a day that cannot have arisen"
     CannotHaveArisen = 11,
+    /// "when the answer table has fewer places than turns, or the page table fewer than n words for
+    /// each turn"
+    TableShort = 13,
 }
 
 /// "*view* (n words)", and "a view eight words; those past n are touched only by an opening".

@@ -37,7 +37,8 @@
 //! [`Register`] hands out the turns, in any order: a desk that gets none holds up no other. Of n
 //! desks, one that waits for a page has it after at most 2n² of its own turns, and one that enters
 //! has written after at most 2n² + 1. Every accepted call or turn is an *event*, numbered from 1 on
-//! since the opening, up to 65,535. *Instant t* is the moment after event t.
+//! since the opening, up to 65,535. *Instant t* is the moment after event t. [`Register::run`] gives
+//! many turns at once.
 //!
 //! # Full days
 //!

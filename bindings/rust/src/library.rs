@@ -6,9 +6,10 @@
 use crate::{other_version, Record};
 
 /// The version of the library that everything here is written for.
-const VERSION: u32 = 1;
+const VERSION: u32 = 2;
 
 /// What a request was answered, and the day after it.
+#[derive(Clone, Default)]
 #[repr(C)]
 pub(crate) struct Reply {
     pub(crate) desks: u32,
@@ -42,6 +43,19 @@ extern "C" {
         desk: u32,
         word: u32,
         page: *mut u32,
+        words: usize,
+    ) -> Reply;
+
+    fn nq_run(
+        desks: u32,
+        event: u32,
+        table: *mut Record,
+        records: usize,
+        list: *const u32,
+        turns: usize,
+        replies: *mut Reply,
+        places: usize,
+        pages: *mut u32,
         words: usize,
     ) -> Reply;
 
@@ -82,6 +96,34 @@ pub(crate) fn step(
             word,
             page.as_mut_ptr(),
             page.len(),
+        )
+    }
+}
+
+/// A run of turns for the desks of a list. The replies and the pages, as many words each as there are
+/// desks, are put in the last two slices.
+pub(crate) fn run(
+    (desks, event): (u32, u32),
+    table: &mut [Record],
+    list: &[u32],
+    replies: &mut [Reply],
+    pages: &mut [u32],
+) -> Reply {
+    see_version();
+    // SAFETY: as for a request; `Reply` is laid out as its struct of seven words. The list is borrowed
+    // too, so that nothing overlaps it and nobody writes it meanwhile, and the library only reads it.
+    unsafe {
+        nq_run(
+            desks,
+            event,
+            table.as_mut_ptr(),
+            table.len(),
+            list.as_ptr(),
+            list.len(),
+            replies.as_mut_ptr(),
+            replies.len(),
+            pages.as_mut_ptr(),
+            pages.len(),
         )
     }
 }

@@ -31,13 +31,17 @@ pub enum Refusal {
     UnknownKind = 8,
     /// 9: the day file has a record whose length is outside 4 to 8, or not that of its kind.
     WrongLength = 9,
-    /// 10: a call or a turn on a day that is not open, or an opening of a day that is.
+    /// 10: a call, a turn or a run of turns on a day that is not open, or an opening of a day that is.
     OpenState = 10,
     /// 11: the day cannot have arisen. Its desk count is above 8, its event number above 65,535, or
     /// a record has a row that is newer than the day, an unknown task, or a task that has had more
     /// turns than any can need; or the calls under way can need more turns than the day has events
     /// left.
     CannotArise = 11,
+    /// 13: a run of turns is lent too few places for its answers or its pages.
+    /// [`Register::run`](crate::Register::run) lends enough for eight desks, so that only a day that
+    /// was taken up with more is refused so.
+    TableShort = 13,
 }
 
 impl Refusal {
@@ -62,6 +66,7 @@ impl Refusal {
             9 => Refusal::WrongLength,
             10 => Refusal::OpenState,
             11 => Refusal::CannotArise,
+            13 => Refusal::TableShort,
             _ => return None,
         })
     }
@@ -90,6 +95,7 @@ impl fmt::Display for Refusal {
                 "an opening of an open day, or another request before the opening"
             }
             Refusal::CannotArise => "the day cannot have arisen",
+            Refusal::TableShort => "the tables of a run of turns are too short",
         })
     }
 }

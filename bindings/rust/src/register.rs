@@ -165,6 +165,45 @@ impl Register {
         self.step(Request::Turn { desk }, &mut [0; Register::MOST_DESKS])
     }
 
+    /// A run of turns: one for each desk number in the list, in order, as [`turn`](Self::turn) gives
+    /// them one by one. It answers what each turn was answered; after one that was refused the next
+    /// one follows.
+    ///
+    /// ```
+    /// use nelvaquist::{Answer, Refusal, Register};
+    ///
+    /// let mut register = Register::new();
+    /// register.open(1)?;
+    /// register.entry(1, 7)?;
+    /// let answers = register.run(&[1, 1, 2, 1])?;
+    /// let written = Answer::Written { turns: 3 };
+    /// let wanted = [Ok(Answer::Read), Ok(Answer::Read), Err(Refusal::NoSuchDesk), Ok(written)];
+    /// assert_eq!(answers, wanted);
+    /// # Ok::<(), Refusal>(())
+    /// ```
+    ///
+    /// # Errors
+    ///
+    /// The run itself is refused, and none of its turns given, with [`OpenState`](Refusal::OpenState)
+    /// if the day is not open, then with [`LentSize`](Refusal::LentSize) if it was taken up without
+    /// exactly one record for each desk, then with [`TableShort`](Refusal::TableShort) if it was taken
+    /// up with more than eight desks and the list is not empty. Whatever else is wrong is answered to
+    /// each turn.
+    pub fn run(&mut self, desks: &[u32]) -> Result<Vec<Result<Answer, Refusal>>, Refusal> {
+        let n = Register::MOST_DESKS.min(self.desks as usize);
+        let mut replies = vec![Reply::default(); desks.len()];
+        let mut pages = vec![0; n * desks.len()];
+        let day = (self.desks, self.event);
+        let reply = library::run(day, &mut self.records, desks, &mut replies, &mut pages);
+        self.desks = reply.desks;
+        self.event = reply.event;
+        match reply.answer {
+            0 => Err(refusal(&reply)),
+            6 => Ok((0..).zip(&replies).map(|(i, own)| answer(own, &pages[n * i..])).collect()),
+            number => other_version("answer", number),
+        }
+    }
+
     /// A request of any kind, with a page list. Only a turn looks at the page list: if it answers a
     /// page, the list's first words become the page's. No other word of the list changes.
     ///
@@ -214,13 +253,18 @@ impl Register {
     }
 }
 
-/// What a reply says. The words of a page are in the page list.
+/// Why a reply refuses.
+fn refusal(reply: &Reply) -> Refusal {
+    match Refusal::from_number(reply.refusal) {
+        Some(refusal) => refusal,
+        None => other_version("refusal", reply.refusal),
+    }
+}
+
+/// What a reply says. The words of a page are the first of the page list.
 fn answer(reply: &Reply, page: &[u32]) -> Result<Answer, Refusal> {
     match reply.answer {
-        0 => match Refusal::from_number(reply.refusal) {
-            Some(refusal) => Err(refusal),
-            None => other_version("refusal", reply.refusal),
-        },
+        0 => Err(refusal(reply)),
         1 => Ok(Answer::Opened),
         2 => Ok(Answer::Called),
         3 => Ok(Answer::Read),

@@ -9,11 +9,16 @@ use std::process::abort;
 
 #[no_mangle]
 extern "C" fn nq_version() -> u32 {
-    2
+    3
 }
 
 #[no_mangle]
 extern "C" fn nq_step() {
+    abort()
+}
+
+#[no_mangle]
+extern "C" fn nq_run() {
     abort()
 }
 
@@ -25,7 +30,7 @@ extern "C" fn nq_read() {
 fn panics<T>(ask: impl FnOnce() -> T) {
     let Err(panic) = catch_unwind(AssertUnwindSafe(ask)) else { panic!("it was answered") };
     let said = panic.downcast_ref::<String>().unwrap();
-    assert_eq!(said, "libnq.a is of another version than the crate nelvaquist: version 2");
+    assert_eq!(said, "libnq.a is of another version than the crate nelvaquist: version 3");
 }
 
 #[test]
@@ -39,6 +44,8 @@ fn no_table_is_lent() {
     panics(|| register.entry(1, 7));
     panics(|| register.page(1));
     panics(|| register.turn(1));
+    panics(|| register.run(&[1, 1]));
+    panics(|| register.run(&[]));
     panics(|| register.step(Request::Turn { desk: 1 }, &mut []));
     assert_eq!(register, before);
 }

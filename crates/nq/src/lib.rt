@@ -143,13 +143,7 @@ pub extern "C" fn nq_run(
     ensures { λ r. ⌜ now (pages .exit) ≡ runIn (dayWith count event) (now (table .entry)) (now (processes .entry))
         (now (replies .entry)) (now (pages .entry)) .pages ⌝ }
 {
-    numbers::run_reply(packed_runs::run(
-        Day { count, event },
-        table,
-        processes,
-        replies,
-        pages,
-    ))
+    numbers::run_reply(packed_runs::run(Day { count, event }, table, processes, replies, pages))
 }
 
 // The record that a day file begins with, or how it ends.

@@ -85,7 +85,15 @@ pub fn run_reply(o: RunOutcome) -> ReplyNumbers
 pub fn words_of(r: ReplyNumbers) -> [u32; 7]
     ensures { λ ws. ⌜ ws ≡ replyWords r ⌝ }
 {
-    [r.count, r.event, r.answer, r.refusal, r.lender, r.at, r.turns]
+    [
+        r.count,
+        r.event,
+        r.answer,
+        r.refusal,
+        r.lender,
+        r.at,
+        r.turns,
+    ]
 }
 
 // A request by its kind.

@@ -1,2 +1,3 @@
--- The loop of a run.
+-- The loop of a run, and that runs on words are runs on records.
 pub mod Looped
+pub mod Chained

@@ -52,9 +52,9 @@ module _ (M : Machine) (n : ℕ) (z : 0 < n) (Kept : M .Process → Type 0)
     (calls : (j : Job) (p : M .Process) → n ≤ 8 → Kept p → Kept (M .called n j p))
     (turns : (i now : ℕ) (other : M .Process) (page : List ℕ) (p : M .Process) → n ≤ 8 → M .isIdle p ≡ false →
     ((j : ℕ) → M .reads n p ≡ some j → j < n → Kept other) → Kept p → Kept (M .turned n i now other page p .state)) where
-  record Holding (s : State (M .Process)) : Type 0 where
-    count : s .day .count ≡ n
-    kept : (i : ℕ) → i < n → Kept (getD (s .table) i (M .noProcess))
+  pub record Holding (s : State (M .Process)) : Type 0 where
+    pub count : s .day .count ≡ n
+    pub kept : (i : ℕ) → i < n → Kept (getD (s .table) i (M .noProcess))
 
   advance-holds : (s : State (M .Process)) (d : ℕ) (p : M .Process) → d - 1 < length (s .table) → Holding s → Kept p →
       Holding (advance M s d p)
@@ -101,7 +101,7 @@ module _ (M : Machine) (n : ℕ) (z : 0 < n) (Kept : M .Process → Type 0)
   accept-holds s (scanCall d) q h = call-holds s d scan q h
   accept-holds s (turnOf d page) q h = turn-holds s d page q h
 
-  step-holds : (s : State (M .Process)) (x : Item) → Holding s → Holding (stepped M s x .state)
+  pub step-holds : (s : State (M .Process)) (x : Item) → Holding s → Holding (stepped M s x .state)
   step-holds s x h = go (refusal M s x) refl
     where
       go : (k : Option Refusal) → refusal M s x ≡ k → Holding (stepped M s x .state)
@@ -113,7 +113,7 @@ module _ (M : Machine) (n : ℕ) (z : 0 < n) (Kept : M .Process → Type 0)
   grown-holds s (x ∷ xs) h = grown-holds (stepped M s x .state) xs (step-holds s x h)
 
   module _ (zero : Kept (M .zeroProcess)) where
-    opened-holds : Holding (openedFor M n)
+    pub opened-holds : Holding (openedFor M n)
     unfolding openedFor
     opened-holds =
         record {

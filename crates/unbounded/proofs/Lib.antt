@@ -10,11 +10,13 @@ pub mod Deeds
 pub mod Demand3
 pub mod Book
 pub mod Closing
+pub mod Runs
 pub mod Emptied
 pub mod Whole
 pub mod PlacesPast
 pub mod MarkedCounts
 pub mod MarkedDays
 pub mod RefusedDays
+pub mod RunDays
 pub mod Figure3
 pub mod Procedures

@@ -1,8 +1,8 @@
 -- "A collect has eight rows and a view eight words": calls and turns keep it so, and a page that a turn finds has n words.
-use Prim.Native.Nat.{ℕ, _+_, _*_, _≤_, _<_}
+use Prim.Native.Nat.{ℕ, _+_, _-_, _*_, _≤_, _<_}
 use native.Mathlib.Omega.{arith}
 use native.Mathlib.Decide.{ℕ-discrete, decLt}
-use mathlib.Core.Path.{_≡_, refl, ap, _∙_, subst}
+use mathlib.Core.Path.{_≡_, refl, sym, ap, _∙_, subst}
 use mathlib.Core.Logic.{by-cases}
 use mathlib.Core.Bool.{Bool, true, false, cond}
 use mathlib.Core.List.{List, map}
@@ -10,20 +10,24 @@ use mathlib.Core.Option.{Option, none, some, Option·none-ne-some, Option·some-
 use lib.ListN.{length, getD, replicate, length-map, getD-replicate}
 use lib.Seq.{getD-set-same, length-take-le}
 use lib.Dec.{eqb, ltb}
+use borrow.Author.Tests.{ltb-false}
 use Rattle.snapshot.specs.Lists.{over}
 use Rattle.snapshot.specs.Marks.{lends, Found}
 use Rattle.snapshot.specs.Verdict.{Verdict, clean, lent, again, verdict}
 use Rattle.snapshot.specs.Days as Days
-use Rattle.snapshot.specs.Days.{Item}
+use Rattle.snapshot.specs.Tally.{Job}
+use Rattle.snapshot.specs.Days.{State, Item, turnOf, refusal, processOf, readFrom, turnBy, accept}
+use Rattle.snapshot.specs.declared.Refusal.{Refusal}
 use Rattle.snapshot.proofs.Lists.{length-over, getD-over, getD-over-past, getD-map-below}
 use Rattle.snapshot.proofs.DoubleCollect.{Ends, lender, verdict-ends}
-use Rattle.snapshot.proofs.Stepped.{grown, grown-keeps}
+use Rattle.snapshot.proofs.Admitted.{admitted-turn}
+use Rattle.snapshot.proofs.Stepped.{refusal-changes-nothing, acceptance-does, grown, Holding, step-holds, opened-holds, grown-keeps}
 use Rattle.unbounded.specs.declared.Register.{Register}
 use Rattle.unbounded.specs.declared.Process.{Process}
 use Rattle.unbounded.specs.declared.Task.{Task}
 use Rattle.unbounded.specs.declared.Task.the-variants.{Idle, Scan, Update, Ready}
 use Rattle.unbounded.specs.Registers.{noRegister, zeroRegister, laid, readInto, cleared, Order, collectedAt, differs}
-use Rattle.unbounded.specs.Processes.{taskOf, noProcess, zeroProcess, emptied, begin}
+use Rattle.unbounded.specs.Processes.{isIdle, taskOf, noProcess, zeroProcess, emptied, begin}
 use Rattle.unbounded.specs.Turns.{position, placeAt, reads, firstAfter, secondAfter, endAfter, decision, found}
 use Rattle.unbounded.specs.Turns.{afterRead, foundBy, scanTurn, updateTurn, written, turned, turnedBy}
 use Rattle.unbounded.specs.Days.{figure3, openedFor}
@@ -223,13 +227,80 @@ reads-within o n P z (Update x t) j q =
     (P .register-within (placeAt n (position n t)) (place-below n (position n t) (position-low n t z)))
 reads-within o n P z (Ready x at t) j q = absurd (Option·none-ne-some j q)
 
--- every record of a day grown from an opening is whole
-pub grown-whole : (o : Order) (n : ℕ) → Permutes n o → 0 < n → (xs : List Item) (i : ℕ) → i < n →
-    Whole (getD (grown (figure3 o) (openedFor n) xs .table) i noProcess)
-unfolding Days.openedFor
-grown-whole o n P z =
-    grown-keeps (figure3 o) n z Whole
-    (λ j p l w. whole-begin n l p w (taskOf j 0))
-    (λ i now other page p l busy read w. whole-turned n l p w o P now (other .register) page
-    (λ j q. omega (arith, read j q (reads-within o n P z (p .task) j q) .register)))
-    zero-whole
+module _ (o : Order) (n : ℕ) (P : Permutes n o) (z : 0 < n) where
+  pub calls-whole : (j : Job) (p : Process) → n ≤ 8 → Whole p → Whole (figure3 o .called n j p)
+  calls-whole j p l w = whole-begin n l p w (taskOf j 0)
+
+  pub turns-whole : (i now : ℕ) (other : Process) (page : List ℕ) (p : Process) → n ≤ 8 → isIdle (p .task) ≡ false →
+      ((j : ℕ) → reads o n (p .task) ≡ some j → j < n → Whole other) → Whole p → Whole (figure3 o .turned n i now other page p .state)
+  turns-whole i now other page p l busy read w =
+      whole-turned n l p w o P now (other .register) page
+      (λ j q. omega (arith, read j q (reads-within o n P z (p .task) j q) .register))
+
+  -- a day for n processes, every record of which is whole
+  abbrev pub WholeDay : State Process → Type 0
+  WholeDay = Holding (figure3 o) n z Whole calls-whole turns-whole
+
+  pub opened-whole : WholeDay (openedFor n)
+  unfolding Days.openedFor
+  opened-whole = opened-holds (figure3 o) n z Whole calls-whole turns-whole zero-whole
+
+  pub stepped-whole : (s : State Process) (x : Item) → WholeDay s → WholeDay (Days.stepped (figure3 o) s x .state)
+  stepped-whole = step-holds (figure3 o) n z Whole calls-whole turns-whole
+
+  -- every record of a day grown from an opening is whole
+  pub grown-whole : (xs : List Item) (i : ℕ) → i < n → Whole (getD (grown (figure3 o) (openedFor n) xs .table) i noProcess)
+  unfolding Days.openedFor
+  grown-whole = grown-keeps (figure3 o) n z Whole calls-whole turns-whole zero-whole
+
+  -- ---- a turn leaves its page list as long as it was
+
+  turned-long : (now : ℕ) (r : Register) (page : List ℕ) (p : Process) → n ≤ 8 → Whole p → n ≤ length page →
+      ((j : ℕ) → reads o n (p .task) ≡ some j → n ≤ length (r .view)) → length (turned o n now r page p .page) ≡ length page
+  unfolding turned
+  turned-long now r page p l w m = go (p .task)
+    where
+      scan-long : (t : ℕ) (f : Option (Found ℕ)) → Full n f → length (scanTurn o n now r page p t f .page) ≡ length page
+      scan-long t none h = refl
+      scan-long t (some f) h = length-over n (f .words) page (length-take-le n (f .words) h) m
+
+      update-long : (x t : ℕ) (f : Option (Found ℕ)) → length (updateTurn o n now r page p x t f .page) ≡ length page
+      update-long x t none = refl
+      update-long x t (some f) = refl
+
+      go : (k : Task) → ((j : ℕ) → reads o n k ≡ some j → n ≤ length (r .view)) →
+          length (turnedBy o n now r page p k .page) ≡ length page
+      go Idle h = refl
+      go (Scan t) h =
+          scan-long t (foundBy o n now (position n t) r p)
+          (found-by-full n l p w o P now r (h (o .register (placeAt n (position n t))) refl) (position n t))
+      go (Update x t) h = update-long x t (foundBy o n now (position n t) r p)
+      go (Ready x at t) h = refl
+
+  accepted-long : (s : State Process) (d : ℕ) (page : List ℕ) → WholeDay s → refusal (figure3 o) s (turnOf d page) ≡ none →
+      length (accept (figure3 o) s (turnOf d page) .page) ≡ length page
+  unfolding refusal accept turnBy
+  accepted-long s d page g q =
+      let a = admitted-turn (figure3 o) s d page q in
+      let c = g .count in
+      let p = processOf (figure3 o) s d in
+      let read : ℕ → Process = λ k. readFrom (figure3 o) (s .table) (reads o k (p .task)) in
+      let among = a .suited .among in
+      let room = ltb-false (length page) (s .day .count) (a .suited .long) in
+      let small : n ≤ 8 = subst (λ k. k ≤ 8) c (a .suited .small) in
+      subst (λ k. length (turned o k (s .day .event + 1) (read k .register) page p .page) ≡ length page) (sym c)
+      (turned-long (s .day .event + 1) (read n .register) page p small (g .kept (d - 1) (omega (arith, among, c)))
+      (omega (arith, room, c)) (λ j e.
+      let view = g .kept j (reads-within o n P z (p .task) j e) .register in
+      let same : length (read n .register .view) ≡ 8 =
+      ap (λ k. length (readFrom (figure3 o) (s .table) k .register .view)) e ∙ view in
+      omega (arith, same, small)))
+
+  pub turn-page-long : (s : State Process) (d : ℕ) (page : List ℕ) → WholeDay s →
+      length (Days.stepped (figure3 o) s (turnOf d page) .page) ≡ length page
+  turn-page-long s d page g = go (refusal (figure3 o) s (turnOf d page)) refl
+    where
+      go : (k : Option Refusal) → refusal (figure3 o) s (turnOf d page) ≡ k →
+          length (Days.stepped (figure3 o) s (turnOf d page) .page) ≡ length page
+      go none q = ap (λ r. length (r .page)) (acceptance-does (figure3 o) s (turnOf d page) q) ∙ accepted-long s d page g q
+      go (some k) q = ap (λ r. length (r .page)) (refusal-changes-nothing (figure3 o) s (turnOf d page) k q)

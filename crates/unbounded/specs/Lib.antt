@@ -5,4 +5,5 @@ pub mod Turns
 pub mod Days
 pub mod MarkedDays
 pub mod RefusedDays
+pub mod RunDays
 pub mod Figure3

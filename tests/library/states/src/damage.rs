@@ -7,7 +7,7 @@ use model::random::Random;
 use model::register::{most_reads, LAST_EVENT, PLACES};
 
 /// The most records of a table and the most words of a page list that are lent.
-const MOST_RECORDS: usize = 12;
+pub const MOST_RECORDS: usize = 12;
 const MOST_PAGE: usize = 20;
 
 /// A state for some n from 1 to 8: one in ten of nothing but any numbers, the others such as are
@@ -92,6 +92,18 @@ pub fn reading(random: &mut Random, n: u32, kind: u32, turns: u32) -> (State, u3
         }
     }
     (state, one as u32 + 1)
+}
+
+/// A day on which every desk has called for a page or an entry, and none has had a turn.
+pub fn called(random: &mut Random) -> State {
+    let n = 1 + random.below(PLACES);
+    let mut table: Vec<Words> = vec![[0; WORDS]; n];
+    for words in &mut table {
+        words[ROW] = number(random);
+        words[KIND] = random.pick(&[PAGE, ENTRY]);
+        words[TASK_WORD] = number(random);
+    }
+    State { count: n as u32, event: n as u32, table, page: page_list(random, n) }
 }
 
 /// A day that is not refused with 11, with records of these tasks, rubbish as they are.

@@ -1,8 +1,9 @@
-//! What differs between two outcomes, and the state and request of it, to be read by people.
+//! What differs between two outcomes, and the state and request or run of it, to be read by people.
 
+use crate::damage::MOST_RECORDS;
 use crate::record::*;
 use crate::state::*;
-use std::fmt::Write;
+use std::fmt::{Debug, Write};
 
 /// All that the library did otherwise than the model, one line each.
 pub fn differences(model: &Outcome, library: &Outcome) -> Vec<String> {
@@ -31,6 +32,36 @@ pub fn differences(model: &Outcome, library: &Outcome) -> Vec<String> {
     lines
 }
 
+/// All that the library did otherwise than the model in a run.
+pub fn run_differences(model: &Ran, library: &Ran) -> Vec<String> {
+    let mut lines = differences(&model.outcome, &library.outcome);
+    for (i, (one, other)) in model.run.answers.iter().zip(&library.run.answers).enumerate() {
+        for word in (0..one.len()).filter(|&word| one[word] != other[word]) {
+            let (what, one, other) = (PLACE_NAMES[word], one[word], other[word]);
+            lines.push(format!("answer {}, {what}: model {one}, library {other}", i + 1));
+        }
+    }
+    for (i, (one, other)) in model.run.pages.iter().zip(&library.run.pages).enumerate() {
+        if one != other {
+            lines.push(format!("page table, word {}: model {one}, library {other}", i + 1));
+        }
+    }
+    lines
+}
+
+/// A run: all of its words, but of a long one only the first.
+pub fn run_lines(run: &Run) -> String {
+    let (desks, answers, pages) = (some(&run.desks), some(&run.answers), some(&run.pages));
+    format!("run of turns: {desks}\nanswer table: {answers}\npage table: {pages}\n")
+}
+
+fn some<T: Debug>(list: &[T]) -> String {
+    match list.len() {
+        0..=2000 => format!("{list:?}"),
+        length => format!("{:?}, the first 20 of {length}", &list[..20]),
+    }
+}
+
 /// A request in a line.
 pub fn request_line(request: Request) -> String {
     let Request { kind, process, word } = request;
@@ -43,10 +74,11 @@ pub fn request_line(request: Request) -> String {
     }
 }
 
-/// A state, all of its words.
+/// A state: all of its words, but of a long table only the first records.
 pub fn state_lines(state: &State) -> String {
-    let mut text = format!("day: count {}, event {}\n", state.count, state.event);
-    for (i, words) in state.table.iter().enumerate() {
+    let (count, event, records) = (state.count, state.event, state.table.len());
+    let mut text = format!("day: count {count}, event {event}, {records} records\n");
+    for (i, words) in state.table.iter().take(MOST_RECORDS).enumerate() {
         let _ = writeln!(text, "record {}: row {}", i + 1, row_text(words, ROW));
         let _ = writeln!(text, "  task {}", task_text(words));
         for (collect, called) in [(FIRST, "first"), (SECOND, "second")] {

@@ -1,5 +1,6 @@
 //! What the library is asked and what the model answers, with the day, every word of every record
-//! and every word of the page list. The library itself is linked to the binary alone.
+//! and every word of the page list, or of a run's tables. The library itself is linked to the binary
+//! alone.
 
 pub mod bytes;
 pub mod damage;
@@ -7,5 +8,6 @@ pub mod differences;
 pub mod reached;
 pub mod record;
 pub mod requests;
+pub mod runs;
 pub mod state;
 pub mod wanted;

@@ -4,11 +4,12 @@
 use states::record::{Words, WORDS};
 use states::state::*;
 
-/// Records beside a lent table and words beside a lent page list, on each side.
+/// Records beside a lent table, words beside a lent page list and so on, on each side.
 const BESIDE: usize = 2;
 const GUARD: u32 = 0x5eed_cafe;
 
 #[repr(C)]
+#[derive(Default)]
 struct RawReply {
     count: u32,
     event: u32,
@@ -60,52 +61,72 @@ extern "C" {
         page: *mut u32,
         words: usize,
     ) -> RawReply;
+    fn nq_run(
+        count: u32,
+        event: u32,
+        table: *mut Words,
+        records: usize,
+        desks: *const u32,
+        turns: usize,
+        replies: *mut Place,
+        places: usize,
+        pages: *mut u32,
+        words: usize,
+    ) -> RawReply;
     fn nq_read(bytes: *const u8, length: usize) -> RawRecord;
+}
+
+impl RawReply {
+    fn reply(&self) -> Reply {
+        let RawReply { kind, refusal, lender, at, turns, .. } = *self;
+        Reply { kind, refusal, lender, at, turns }
+    }
+}
+
+/// Something lent, between guards.
+struct Guarded<T> {
+    all: Vec<T>,
+    guard: T,
+}
+
+impl<T: Copy + PartialEq> Guarded<T> {
+    fn new(lent: &[T], guard: T) -> Self {
+        let beside = [guard; BESIDE];
+        Guarded { all: [&beside, lent, &beside].concat(), guard }
+    }
+
+    fn lend(&mut self) -> (*mut T, usize) {
+        let inner = BESIDE..self.all.len() - BESIDE;
+        (self.all[inner.clone()].as_mut_ptr(), inner.len())
+    }
+
+    /// What was lent, if no guard was written over.
+    fn back(self, called: &str) -> Result<Vec<T>, String> {
+        let end = self.all.len() - BESIDE;
+        let mut beside = self.all[..BESIDE].iter().chain(&self.all[end..]);
+        match beside.any(|guard| *guard != self.guard) {
+            true => Err(format!("a word beside the {called} was written")),
+            false => Ok(self.all[BESIDE..end].to_vec()),
+        }
+    }
 }
 
 /// A state's table and page list between guards.
 struct Lent {
-    table: Vec<Words>,
-    page: Vec<u32>,
+    table: Guarded<Words>,
+    page: Guarded<u32>,
 }
 
 impl Lent {
     fn new(state: &State) -> Self {
-        let mut table = vec![[GUARD; WORDS]; BESIDE];
-        table.extend(&state.table);
-        table.extend([[GUARD; WORDS]; BESIDE]);
-        let mut page = vec![GUARD; BESIDE];
-        page.extend(&state.page);
-        page.extend([GUARD; BESIDE]);
-        Lent { table, page }
+        let table = Guarded::new(&state.table, [GUARD; WORDS]);
+        Lent { table, page: Guarded::new(&state.page, GUARD) }
     }
 
-    fn table(&mut self) -> (*mut Words, usize) {
-        let inner = BESIDE..self.table.len() - BESIDE;
-        (self.table[inner.clone()].as_mut_ptr(), inner.len())
-    }
-
-    fn page(&mut self) -> (*mut u32, usize) {
-        let inner = BESIDE..self.page.len() - BESIDE;
-        (self.page[inner.clone()].as_mut_ptr(), inner.len())
-    }
-
-    /// The outcome, if no guard was written over.
     fn outcome(self, raw: RawReply) -> Result<Outcome, String> {
-        let (records, words) = (self.table.len() - BESIDE, self.page.len() - BESIDE);
-        let mut beside = self.table[..BESIDE].iter().chain(&self.table[records..]).flatten();
-        let mut page_beside = self.page[..BESIDE].iter().chain(&self.page[words..]);
-        if beside.any(|&word| word != GUARD) {
-            return Err("a word beside the table was written".to_string());
-        }
-        if page_beside.any(|&word| word != GUARD) {
-            return Err("a word beside the page list was written".to_string());
-        }
-        let RawReply { count, event, kind, refusal, lender, at, turns } = raw;
-        let table = self.table[BESIDE..records].to_vec();
-        let page = self.page[BESIDE..words].to_vec();
-        let reply = Reply { kind, refusal, lender, at, turns };
-        Ok(Outcome { reply, after: State { count, event, table, page } })
+        let (table, page) = (self.table.back("table")?, self.page.back("page list")?);
+        let after = State { count: raw.count, event: raw.event, table, page };
+        Ok(Outcome { reply: raw.reply(), after })
     }
 }
 
@@ -113,8 +134,8 @@ impl Lent {
 pub fn step(state: &State, request: Request) -> Result<Outcome, String> {
     let Request { kind, process, word } = request;
     let mut lent = Lent::new(state);
-    let (table, records) = lent.table();
-    let (page, words) = lent.page();
+    let (table, records) = lent.table.lend();
+    let (page, words) = lent.page.lend();
     let (count, event) = (state.count, state.event);
     // SAFETY: table and page are of these lengths, aligned, not null and apart from each other.
     let raw = unsafe { nq_step(count, event, table, records, kind, process, word, page, words) };
@@ -125,8 +146,8 @@ pub fn step(state: &State, request: Request) -> Result<Outcome, String> {
 pub fn named(state: &State, request: Request) -> Option<Result<Outcome, String>> {
     let Request { kind, process, word } = request;
     let mut lent = Lent::new(state);
-    let (table, records) = lent.table();
-    let (page, words) = lent.page();
+    let (table, records) = lent.table.lend();
+    let (page, words) = lent.page.lend();
     let (count, event) = (state.count, state.event);
     // SAFETY: as above.
     let raw = unsafe {
@@ -139,6 +160,50 @@ pub fn named(state: &State, request: Request) -> Option<Result<Outcome, String>>
         }
     };
     Some(lent.outcome(raw))
+}
+
+/// A run by `nq_run`.
+pub fn run(state: &State, run: &Run) -> Result<Ran, String> {
+    let mut lent = Lent::new(state);
+    let mut list = Guarded::new(&run.desks, GUARD);
+    let mut answers = Guarded::new(&run.answers, [GUARD; 7]);
+    let mut page_table = Guarded::new(&run.pages, GUARD);
+    let (table, records) = lent.table.lend();
+    let (desks, turns) = list.lend();
+    let (replies, places) = answers.lend();
+    let (pages, words) = page_table.lend();
+    let (count, event) = (state.count, state.event);
+    // SAFETY: as above; the list, the answer table and the page table likewise.
+    let raw = unsafe {
+        nq_run(count, event, table, records, desks, turns, replies, places, pages, words)
+    };
+    let desks = list.back("desk list")?;
+    if desks != run.desks {
+        return Err("the desk list was written".to_string());
+    }
+    let (answers, pages) = (answers.back("answer table")?, page_table.back("page table")?);
+    Ok(Ran { outcome: lent.outcome(raw)?, run: Run { desks, answers, pages } })
+}
+
+/// The turns of a run that is not refused one by one, by `nq_turn`. Each is lent the n words of the
+/// page table that are its own.
+pub fn one_by_one(state: &State, run: &Run) -> Result<Ran, String> {
+    let n = state.count as usize;
+    let mut lent = Lent::new(state);
+    let (table, records) = lent.table.lend();
+    let mut ran = run.clone();
+    let mut raw = RawReply { count: state.count, event: state.event, ..RawReply::default() };
+    for (i, &desk) in run.desks.iter().enumerate() {
+        let own = &mut ran.pages[i * n..(i + 1) * n];
+        let mut list = Guarded::new(own, GUARD);
+        let (page, words) = list.lend();
+        // SAFETY: as above.
+        raw = unsafe { nq_turn(raw.count, raw.event, table, records, desk, page, words) };
+        own.copy_from_slice(&list.back("page list")?);
+        ran.answers[i] = raw.reply().place(raw.count, raw.event);
+    }
+    let outcome = Outcome { reply: Reply::plain(RAN), ..lent.outcome(raw)? };
+    Ok(Ran { outcome, run: ran })
 }
 
 /// What the library's reader finds. `after` stands behind the bytes that are lent.

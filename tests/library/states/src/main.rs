@@ -1,8 +1,9 @@
-//! Drives the library and the model with the same requests and compares the answer, the day, every
-//! word of every record and every word of the page list: `states [--follow] [STATES [SEED]]`. First
-//! every reading turn that there is, then that many states. State k of a seed is state 1 of that seed
-//! plus k - 1. With --follow, every state and request is printed before the library gets it, for a
-//! library that does not come back.
+//! Drives the library and the model with the same requests and runs of turns, and compares the
+//! answer, the day, every word of every record and every word of the page list, or of a run's two
+//! tables: `states [--follow] [STATES [SEED]]`. First every reading turn that there is, then that many
+//! states, then some long runs. State k of a seed is state 1 of that seed plus k - 1. With --follow,
+//! every state and request or run is printed before the library gets it, for a library that does not
+//! come back.
 
 mod library;
 
@@ -10,12 +11,12 @@ use model::days::random_day;
 use model::random::Random;
 use model::register::{most_reads, PLACES};
 use states::damage::{self, page_list};
-use states::differences::{differences, request_line, state_lines};
+use states::differences::*;
 use states::reached::Counts;
 use states::record::{Words, ENTRY, PAGE};
 use states::state::*;
-use states::wanted::{found, wanted};
-use states::{bytes, requests};
+use states::wanted::{found, wanted, wanted_run};
+use states::{bytes, requests, runs};
 use std::process::ExitCode;
 use std::time::Instant;
 
@@ -24,6 +25,9 @@ const SEED: u64 = 1;
 
 /// One state in so many is a day grown from an opening.
 const GROWN: usize = 100;
+
+/// With one state in so many there is a day on which all desks have called, and a run to its end.
+const ENDED: usize = 30;
 
 type Checked = Result<(), String>;
 
@@ -41,8 +45,10 @@ fn main() -> ExitCode {
     let reached = driver.counts.reached();
     print!("{reached}");
     let missing = reached.missing();
-    println!("{states} states of seed {seed}, {} requests", driver.requests);
-    println!("{} of them accepted, {:.1} s", driver.accepted, started.elapsed().as_secs_f64());
+    let Driver { requests, accepted, runs, turns, .. } = driver;
+    let seconds = started.elapsed().as_secs_f64();
+    println!("{states} states of seed {seed}, {requests} requests, {accepted} of them accepted");
+    println!("{runs} runs, {turns} turns in those not refused, {seconds:.1} s");
     // One state seen again need not reach everything.
     if states > 1 && !missing.is_empty() {
         println!("not reached: {}", missing.join("; "));
@@ -70,18 +76,20 @@ struct Driver {
     counts: Counts,
     requests: u64,
     accepted: u64,
+    runs: u64,
+    turns: usize,
 }
 
 impl Driver {
-    /// Every reading turn, and so many states.
+    /// Every reading turn, so many states, and the long runs.
     fn all(&mut self, states: u64, seed: u64) -> Checked {
         let again = |why, seed| format!("{why}\nto see it again: states 1 {seed}");
         self.reading_turns(seed).map_err(|why| again(why, seed))?;
         for k in 0..states {
             let seed = seed.wrapping_add(k);
-            self.run(seed).map_err(|why| again(why, seed))?;
+            self.one(seed).map_err(|why| again(why, seed))?;
         }
-        Ok(())
+        self.long_runs(seed).map_err(|why| again(why, seed))
     }
 
     /// Each of the 2n² reading turns of a page and of an entry, for every n.
@@ -101,16 +109,49 @@ impl Driver {
         Ok(())
     }
 
-    fn run(&mut self, seed: u64) -> Checked {
+    /// A run of more turns than 16 bits count, for every n, also with tables that are too short by one;
+    /// and one that needs more words than 32 bits count.
+    fn long_runs(&mut self, seed: u64) -> Checked {
+        let mut random = Random::new(seed);
+        for n in 1..=PLACES {
+            let (state, mut run) = runs::long(&mut random, n);
+            self.check_run(&state, &run)?;
+            let word = run.pages.pop();
+            self.check_run(&state, &run)?;
+            run.pages.extend(word);
+            run.answers.pop();
+            self.check_run(&state, &run)?;
+        }
+        let (state, run) = runs::vast();
+        self.check_run(&state, &run).map(|_| ())
+    }
+
+    fn one(&mut self, seed: u64) -> Checked {
         let mut random = Random::new(seed);
         for _ in 0..3 {
             self.check_reader(&bytes::some(&mut random), &mut random)?;
         }
         if random.once_in(GROWN) {
-            self.grown(&mut random)
+            self.grown(&mut random)?;
         } else {
-            self.damaged(&mut random)
+            self.damaged(&mut random)?;
         }
+        if random.once_in(ENDED) {
+            let state = damage::called(&mut random);
+            let run = runs::ending(&mut random, &state);
+            self.check_run(&state, &run)?;
+        }
+        self.damaged_runs(&mut random)
+    }
+
+    /// A damaged state and two runs, the second on what the first left.
+    fn damaged_runs(&mut self, random: &mut Random) -> Checked {
+        let mut state = damage::state(random);
+        for _ in 0..2 {
+            let run = runs::some(random, &state);
+            state = self.check_run(&state, &run)?.outcome.after;
+        }
+        Ok(())
     }
 
     /// A damaged state and some requests, each on what the one before left, with a new wound now and
@@ -144,13 +185,18 @@ impl Driver {
         Ok(())
     }
 
-    /// A random day, its records read by the library.
+    /// A random day, its records read by the library. Turns that follow one another are also given as
+    /// a run.
     fn grown(&mut self, random: &mut Random) -> Checked {
         let file = random_day(random.draw());
         let mut state = State { page: page_list(random, 8), ..State::default() };
+        let (mut before, mut desks) = (state.clone(), Vec::new());
         let mut place = 0;
         loop {
             let record = self.check_reader(&file[place..], random)?;
+            if record.kind != TURN && !desks.is_empty() {
+                self.grown_run(random, &before, std::mem::take(&mut desks), &state)?;
+            }
             if record.kind == 0 {
                 return Ok(());
             }
@@ -160,7 +206,30 @@ impl Driver {
             }
             let Found { kind, process, word, .. } = record;
             state = self.check(&state, Request { kind, process, word })?.after;
+            match kind {
+                TURN => desks.push(process),
+                _ => before = state.clone(),
+            }
         }
+    }
+
+    /// A run of turns on the state before them, which leaves what they left one by one.
+    fn grown_run(
+        &mut self,
+        random: &mut Random,
+        before: &State,
+        desks: Vec<u32>,
+        left: &State,
+    ) -> Checked {
+        let run = runs::with_tables(random, before.count, desks);
+        let Outcome { reply, after } = self.check_run(before, &run)?.outcome;
+        if reply.kind == RAN {
+            self.counts.grown_run(before.count);
+            if (after.count, after.event, &after.table) != (left.count, left.event, &left.table) {
+                return Err(format!("the model's run is not its turns: {:?}", run.desks));
+            }
+        }
+        Ok(())
     }
 
     /// A request by `nq_step`, and by the function of its kind.
@@ -175,6 +244,23 @@ impl Driver {
         alike("nq_step", state, request, &model, library::step(state, request))?;
         if let Some(given) = library::named(state, request) {
             alike("the function of its kind", state, request, &model, given)?;
+        }
+        Ok(model)
+    }
+
+    /// A run by `nq_run`, and if it is not refused, its turns one by one by `nq_turn`.
+    fn check_run(&mut self, state: &State, run: &Run) -> Result<Ran, String> {
+        let model = wanted_run(state, run);
+        if self.follow {
+            println!("{}{}", state_lines(state), run_lines(run));
+        }
+        self.counts.watch_run(state, run, &model);
+        self.runs += 1;
+        ran_alike("nq_run", state, run, &model, library::run(state, run))?;
+        if model.outcome.reply.kind == RAN {
+            self.turns += run.desks.len();
+            let given = library::one_by_one(state, run);
+            ran_alike("nq_turn, one by one", state, run, &model, given)?;
         }
         Ok(model)
     }
@@ -198,6 +284,29 @@ impl Driver {
 
 fn rubbish(random: &mut Random, records: usize) -> Vec<Words> {
     (0..records).map(|_| std::array::from_fn(|_| damage::number(random))).collect()
+}
+
+/// Nothing if the library did as the model in a run; otherwise what differs, of much the first lines,
+/// with the state and the run.
+fn ran_alike(
+    function: &str,
+    state: &State,
+    run: &Run,
+    model: &Ran,
+    given: Result<Ran, String>,
+) -> Checked {
+    let lines = match given {
+        Ok(library) if library == *model => return Ok(()),
+        Ok(library) => {
+            let mut lines = run_differences(model, &library);
+            let all = lines.len();
+            lines.truncate(200);
+            format!("{}\n{all} words differ", lines.join("\n"))
+        }
+        Err(why) => why,
+    };
+    let (run, state, reply) = (run_lines(run), state_lines(state), model.outcome.reply);
+    Err(format!("{state}{run}by {function}\nmodel: {reply:?}\n{lines}"))
 }
 
 /// Nothing if the library did as the model; otherwise all that differs, with the state and the request.

@@ -1,5 +1,7 @@
 //! What the states have reached, counted from the model's own outcomes, and what they must reach.
 
+mod runs;
+
 use crate::record::*;
 use crate::state::*;
 use model::counts::Reached;
@@ -138,7 +140,7 @@ impl Counts {
     /// All that must be reached, with its counts.
     pub fn reached(&self) -> Reached {
         let mut reached = Reached::default();
-        for &(name, from, to) in REQUIRED {
+        for &(name, from, to) in REQUIRED.iter().chain(runs::REQUIRED) {
             let columns = match (from, to) {
                 (0, 0) => String::new(),
                 _ => format!(", n = {from} to {to}"),

@@ -52,7 +52,7 @@ fn any(random: &mut Random) -> Request {
 }
 
 /// Mostly a number below the limit, sometimes one that is so only in its last bits, or any.
-fn near(random: &mut Random, limit: usize) -> u32 {
+pub fn near(random: &mut Random, limit: usize) -> u32 {
     let low = random.below(limit) as u32;
     match random.below(8) {
         0 => number(random),

@@ -52,12 +52,51 @@ pub const CALLED: u32 = 2;
 pub const READ: u32 = 3;
 pub const PAGE_ANSWER: u32 = 4;
 pub const WRITTEN: u32 = 5;
+/// A run has been given.
+pub const RAN: u32 = 6;
+
+impl Reply {
+    /// A reply that has nothing more than its kind.
+    pub fn plain(kind: u32) -> Self {
+        Reply { kind, ..Reply::default() }
+    }
+
+    pub fn refused(refusal: u32) -> Self {
+        Reply { refusal, ..Reply::default() }
+    }
+
+    /// The reply with the day after it, as it stands in an answer table.
+    pub fn place(self, count: u32, event: u32) -> Place {
+        let Reply { kind, refusal, lender, at, turns } = self;
+        [count, event, kind, refusal, lender, at, turns]
+    }
+}
 
 /// A reply, and the state that it leaves.
 #[derive(Clone, Debug, PartialEq, Eq)]
 pub struct Outcome {
     pub reply: Reply,
     pub after: State,
+}
+
+/// A place of an answer table: the day after a turn, and its reply.
+pub type Place = [u32; 7];
+pub const PLACE_NAMES: [&str; 7] = ["count", "event", "kind", "refusal", "lender", "at", "turns"];
+
+/// What a run is lent beside a day and its table: "a list of desk numbers", "a lent table" for the
+/// answers and "a second table" for the pages. Any words may stand in it.
+#[derive(Clone, Debug, Default, PartialEq, Eq)]
+pub struct Run {
+    pub desks: Vec<u32>,
+    pub answers: Vec<Place>,
+    pub pages: Vec<u32>,
+}
+
+/// The reply to a run, and all that it leaves.
+#[derive(Clone, Debug, PartialEq, Eq)]
+pub struct Ran {
+    pub outcome: Outcome,
+    pub run: Run,
 }
 
 /// What the reader answers: "at the ordinary end (no bytes left) everything is 0; a refusal has its

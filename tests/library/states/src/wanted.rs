@@ -10,24 +10,26 @@ use model::register::{Day, Desk, Refusal, Turn};
 pub fn wanted(before: &State, request: Request) -> Outcome {
     let mut day = Day { desks: before.count, event: before.event };
     let mut page = before.page.clone();
-    let records: Option<Vec<Desk>> = before.table.iter().map(unpack).collect();
-    let unknown_task = records.is_none();
-    // Blank records stand in for those: what comes before 11 does not go by records.
-    let mut table = records.unwrap_or_else(|| vec![Desk::default(); before.table.len()]);
+    let (mut table, unknown_task) = records(before);
     let mut answer = ask(&mut day, &mut table, &mut page, request);
     if unknown_task {
         answer = cannot_have_arisen(request, answer);
     }
     match answer {
-        Err(refusal) => {
-            let reply = Reply { refusal: refusal as u32, ..Reply::default() };
-            Outcome { reply, after: before.clone() }
-        }
+        Err(refusal) => Outcome { reply: Reply::refused(refusal as u32), after: before.clone() },
         Ok(reply) => {
             let table = written(before, request, &table);
             Outcome { reply, after: State { count: day.desks, event: day.event, table, page } }
         }
     }
+}
+
+/// The model's records, and whether there is a task of a kind that it does not have. Blank records
+/// then stand in for all: what comes before 11 does not go by records.
+fn records(state: &State) -> (Vec<Desk>, bool) {
+    let records: Option<Vec<Desk>> = state.table.iter().map(unpack).collect();
+    let unknown_task = records.is_none();
+    (records.unwrap_or_else(|| vec![Desk::default(); state.table.len()]), unknown_task)
 }
 
 /// "any other kind gets refusal 8"; "Only a turn looks at its page list".
@@ -39,9 +41,9 @@ fn ask(
 ) -> Result<Reply, Refusal> {
     let Request { kind, process, word } = request;
     match kind {
-        OPENING => day.open(table, process).map(|()| plain(OPENED)),
-        ENTRY_CALL => day.entry(table, process, word).map(|()| plain(CALLED)),
-        PAGE_CALL => day.page(table, process).map(|()| plain(CALLED)),
+        OPENING => day.open(table, process).map(|()| Reply::plain(OPENED)),
+        ENTRY_CALL => day.entry(table, process, word).map(|()| Reply::plain(CALLED)),
+        PAGE_CALL => day.page(table, process).map(|()| Reply::plain(CALLED)),
         TURN => day.turn(table, process, page).map(turned),
         _ => Err(Refusal::UnknownKind),
     }
@@ -61,17 +63,13 @@ fn cannot_have_arisen(
     }
 }
 
-fn plain(kind: u32) -> Reply {
-    Reply { kind, ..Reply::default() }
-}
-
 fn turned(turn: Turn) -> Reply {
     match turn {
-        Turn::Read => plain(READ),
+        Turn::Read => Reply::plain(READ),
         Turn::Page { from, at, turns } => {
             Reply { kind: PAGE_ANSWER, refusal: 0, lender: from, at, turns }
         }
-        Turn::Written { turns } => Reply { turns, ..plain(WRITTEN) },
+        Turn::Written { turns } => Reply { turns, ..Reply::plain(WRITTEN) },
     }
 }
 
@@ -89,6 +87,40 @@ fn written(before: &State, request: Request, after: &[Desk]) -> Vec<Words> {
     let mut table = before.table.clone();
     table[own] = pack(&after[own]);
     table
+}
+
+/// The model's outcome of a run. A task of a kind that the model does not have is no cause to refuse
+/// the run, but each turn of it is then refused, with 11.
+pub fn wanted_run(before: &State, lent: &Run) -> Ran {
+    let mut day = Day { desks: before.count, event: before.event };
+    let mut answers = vec![None; lent.answers.len()];
+    let mut run = lent.clone();
+    let (mut table, unknown_task) = records(before);
+    if let Err(refusal) = day.run(&mut table, &lent.desks, &mut answers, &mut run.pages) {
+        let reply = Reply::refused(refusal as u32);
+        return Ran { outcome: Outcome { reply, after: before.clone() }, run: lent.clone() };
+    }
+    if unknown_task {
+        // Blank records had no turn accepted.
+        answers.iter_mut().flatten().for_each(|answer| *answer = Err(Refusal::CannotHaveArisen));
+    }
+    let mut after = before.clone();
+    for (i, answer) in answers.iter().enumerate() {
+        run.answers[i] = match *answer {
+            // "every other place of both remains"
+            None => continue,
+            Some(Err(refusal)) => Reply::refused(refusal as u32).place(after.count, after.event),
+            Some(Ok(turn)) => {
+                // "Every accepted call or turn adds 1 to the event number".
+                after.event += 1;
+                let own = lent.desks[i] as usize - 1;
+                after.table[own] = pack(&table[own]);
+                turned(turn).place(after.count, after.event)
+            }
+        };
+    }
+    assert_eq!((after.count, after.event), (day.desks, day.event), "the model's day");
+    Ran { outcome: Outcome { reply: Reply::plain(RAN), after }, run }
 }
 
 /// What the model's reader finds at the beginning of some bytes.
