@@ -3,39 +3,15 @@
 use numbers::RecordNumbers;
 use numbers::ReplyNumbers;
 use snapshot::Day;
-use snapshot::Refusal;
 ghost use mathlib.Core.Path.{_≡_};
 ghost use mathlib.Core.List.{[]};
 ghost use Rattle.snapshot.specs.declared.Request.the-variants.{Open, Update, Scan, Turn};
 ghost use Rattle.dayfile.specs.Reader.{reading, readerReply};
 ghost use Rattle.packed_table.specs.Tables.{tableAfter, steppedIn};
-ghost use Rattle.numbers.specs.Replies.{recordNumbers};
+ghost use Rattle.numbers.specs.Replies.{dayWith, recordNumbers};
 ghost use Rattle.packed_runs.specs.Runs.{runIn};
-ghost use Rattle.nq.specs.Requests.{version, dayWith, replyTo, replyIn, tableIn, pageIn, runReply};
-
-// A request by its kind, and its reply.
-fn asked(
-    day: Day,
-    table: &mut [[u32; 208]],
-    kind: u32,
-    process: u32,
-    word: u32,
-    page: &mut [u32],
-) -> ReplyNumbers
-    ensures { λ r. ⌜ r ≡ replyIn day (now (table .entry)) kind process word (now (page .entry)) ⌝ }
-    ensures { λ r. ⌜ now (table .exit) ≡ tableIn day (now (table .entry)) kind process word (now (page .entry)) ⌝ }
-    ensures { λ r. ⌜ now (page .exit) ≡ pageIn day (now (table .entry)) kind process word (now (page .entry)) ⌝ }
-{
-    if numbers::is_kind(kind) {
-        return numbers::reply_of(packed_table::step(
-            day,
-            table,
-            numbers::request_of(kind, process, word),
-            page,
-        ));
-    }
-    numbers::reply(day, 0, snapshot::number(Refusal::UnknownKind), 0, 0, 0)
-}
+ghost use Rattle.packed_requests.specs.Requests.{replyTo, replyIn, tableIn, pageIn};
+ghost use Rattle.nq.specs.Requests.{version, runReply};
 
 // A request of any kind: 1 an opening, 2 an entry call, 3 a page call, 4 a turn.
 #[no_mangle]
@@ -54,7 +30,7 @@ pub extern "C" fn nq_step(
     ensures { λ r. ⌜ now (page .exit) ≡
         pageIn (dayWith count event) (now (table .entry)) kind process word (now (page .entry)) ⌝ }
 {
-    asked(Day { count, event }, table, kind, process, word, page)
+    packed_requests::asked(Day { count, event }, table, kind, process, word, page)
 }
 
 // An opening for so many processes.
@@ -70,7 +46,7 @@ pub extern "C" fn nq_open(
         (steppedIn (dayWith count event) (now (table .entry)) (Open processes) []) ⌝ }
 {
     let mut none = [0u32; 1];
-    asked(Day { count, event }, table, 1, processes, 0, &mut none)
+    packed_requests::asked(Day { count, event }, table, 1, processes, 0, &mut none)
 }
 
 // An entry call.
@@ -87,7 +63,7 @@ pub extern "C" fn nq_entry(
         (steppedIn (dayWith count event) (now (table .entry)) (Update process word) []) ⌝ }
 {
     let mut none = [0u32; 1];
-    asked(Day { count, event }, table, 2, process, word, &mut none)
+    packed_requests::asked(Day { count, event }, table, 2, process, word, &mut none)
 }
 
 // A page call.
@@ -103,7 +79,7 @@ pub extern "C" fn nq_page(
         (steppedIn (dayWith count event) (now (table .entry)) (Scan process) []) ⌝ }
 {
     let mut none = [0u32; 1];
-    asked(Day { count, event }, table, 3, process, 0, &mut none)
+    packed_requests::asked(Day { count, event }, table, 3, process, 0, &mut none)
 }
 
 // A turn, which lends a page list.
@@ -121,7 +97,7 @@ pub extern "C" fn nq_turn(
     ensures { λ r. ⌜ now (page .exit) ≡
         steppedIn (dayWith count event) (now (table .entry)) (Turn process) (now (page .entry)) .page ⌝ }
 {
-    asked(Day { count, event }, table, 4, process, 0, page)
+    packed_requests::asked(Day { count, event }, table, 4, process, 0, page)
 }
 
 // A run of turns, of each process of a list: their replies and pages go into two lent tables.

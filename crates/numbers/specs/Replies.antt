@@ -16,6 +16,10 @@ use Rattle.dayfile.specs.Reader.{ReaderReply, found, ended}
 use Rattle.numbers.specs.declared.ReplyNumbers.{ReplyNumbers}
 use Rattle.numbers.specs.declared.RecordNumbers.{RecordNumbers}
 
+-- the day that two numbers are
+abbrev pub dayWith : (count event : ℕ) → Day
+dayWith count event = record { count = count; event = event }
+
 -- a reply, and the day after it
 abbrev pub replyWith : Day → (answer refusal lender at turns : ℕ) → ReplyNumbers
 replyWith d k refusal l at t =

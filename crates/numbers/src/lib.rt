@@ -12,7 +12,7 @@ ghost use Rattle.snapshot.specs.Replies.{replyOf};
 ghost use Rattle.admission.specs.Checks.{asOption};
 ghost use Rattle.dayfile.specs.Reader.{readerReply};
 ghost use Rattle.numbers.specs.Requests.{requestNumbered, isKind};
-ghost use Rattle.numbers.specs.Replies.{replyWith, replyNumbers, runNumbers, replyWords};
+ghost use Rattle.numbers.specs.Replies.{dayWith, replyWith, replyNumbers, runNumbers, replyWords};
 ghost use Rattle.numbers.specs.Replies.{Short, recordWith, requestNumbers, recordNumbers};
 
 // The day after a request, its answer (0 refused, 1 opened, 2 called, 3 read, 4 page, 5 written, 6 a run), the number of the refusal, the
@@ -66,6 +66,16 @@ pub fn reply_of(o: Outcome) -> ReplyNumbers
         Answer::Read => reply(day, 3, 0, 0, 0, 0),
         Answer::Page { lender, at, turns } => reply(day, 4, 0, lender, at, turns),
         Answer::Written { turns } => reply(day, 5, 0, 0, 0, turns),
+    }
+}
+
+// The day after a request, by its reply.
+pub fn day_in(r: ReplyNumbers) -> Day
+    ensures { λ d. ⌜ d ≡ dayWith (r .count) (r .event) ⌝ }
+{
+    Day {
+        count: r.count,
+        event: r.event,
     }
 }
 

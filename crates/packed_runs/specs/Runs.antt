@@ -1,13 +1,11 @@
 -- A run of turns (document 02, K4) on a table of packed records: the run of the definitions, each turn's table packed by the step that
 -- gave it, and each answer as the numbers of its reply.
 use Prim.Native.Nat.{ℕ}
-use mathlib.Core.List.{List, []}
+use mathlib.Core.List.{List}
 use lib.ListN.{length, take, drop}
 use Rattle.snapshot.specs.declared.Day.{Day}
-use Rattle.snapshot.specs.declared.Answer.{Answer}
 use Rattle.snapshot.specs.declared.Request.the-variants.{Turn}
 use Rattle.snapshot.specs.Refusals.{firstCause}
-use Rattle.snapshot.specs.Replies.{replyOf}
 use Rattle.snapshot.specs.Demand.{Result}
 use Rattle.snapshot.specs.Days.{State}
 use Rattle.snapshot.specs.Runs.{RunResult, runCauses, runUnless}
@@ -17,7 +15,8 @@ use Rattle.runs.specs.declared.Plan.{Plan}
 use Rattle.runs.specs.declared.Reached.{Reached}
 use Rattle.runs.specs.declared.RunOutcome.{RunOutcome}
 use Rattle.runs.specs.Plans.{checkOf, outcomeAt}
-use Rattle.numbers.specs.Replies.{replyNumbers, replyWords}
+use Rattle.numbers.specs.Replies.{replyWords}
+use Rattle.packed_requests.specs.Requests.{replyTo}
 
 -- a turn of process d on words: its outcome and its page are those of the step on the records that they are
 abbrev pub giveIn : State (List ℕ) → ℕ → List ℕ → Result (State (List ℕ))
@@ -29,12 +28,9 @@ giveIn s d page =
       page = r .page;
     }
 
--- the reply that a turn is answered, as it lies in a table of replies: the day after it, and its answer
-abbrev pub replyWith : Day → Answer → List ℕ
-replyWith d a = replyWords (replyNumbers d (replyOf [] a))
-
+-- what a table of replies holds of a turn: the numbers of its reply, in their order
 abbrev pub toldIn : {P : Type 0} → Result (State P) → List ℕ
-toldIn r = replyWith (r .state .day) (r .answer)
+toldIn r = replyWords (replyTo r)
 
 unfoldable pub runIn : Day → (table : List (List ℕ)) → List ℕ → (replies : List (List ℕ)) → (pages : List ℕ) →
     RunResult (State (List ℕ)) (List ℕ)

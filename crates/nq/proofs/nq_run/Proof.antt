@@ -2,9 +2,8 @@
 use mathlib.Core.Path.{ap, _∙_}
 use Rattle.admission.specs.Checks.{asOption}
 use Rattle.packed_runs.specs.Runs.{runIn}
-use Rattle.numbers.specs.Replies.{runNumbers}
+use Rattle.numbers.specs.Replies.{dayWith, runNumbers}
 use Rattle.runs.proofs.Fitting.{check-back}
-use Rattle.nq.specs.Requests.{dayWith}
 use borrow.Author.Needs.{needs}
 use Rattle.nq.proofs.nq_run.Statement.{statement}
 use Rattle.nq.proofs.nq_run.Tie as tie

@@ -5,6 +5,7 @@ use mathlib.Core.Path.{_≡_, refl, sym, ap, _∙_}
 use lib.ListN.{length}
 use borrow.Author.Needs.{needs}
 use borrow.Author.Tests.{ltb-true}
+use Rattle.runs.specs.Plans.{reachedAt}
 use Rattle.packed_runs.proofs.Looped.{wholeFrom, Goes, goes-first, goes-inside, goes-next, goes-last}
 use Rattle.packed_runs.proofs.run.Statement.{statement}
 use Rattle.packed_runs.proofs.run.Tie as tie
@@ -49,32 +50,45 @@ put-requires : tie.Need-put-requires Inv-loop μ-loop
 put-requires c κs =
     goes-inside (c .before .before .before .before .before .before .before .before .before .before .loop .inv .0) (c .before .before .before .before .before .before .before .before .before .goes .ensures) (c .before .before .before .before .before .before .before .before .if1 .taken) .1
 
+day-in-requires : tie.Need-day-in-requires Inv-loop μ-loop
+day-in-requires c κs = search needs
+
 next-requires : tie.Need-next-requires Inv-loop μ-loop
 next-requires c κs =
-    let l = c .before .before .before .before .before .before .before .before .before .before .before .before .loop in
-    let a = c .before .before .before .before .before .before .before .before .before .before .before .before .before .before .before .before .before .args in
-    let inside = goes-inside (l .inv .0) (c .before .before .before .before .before .before .before .before .before .before .before .goes .ensures) (c .before .before .before .before .before .before .before .before .before .before .if1 .taken) .2 in
-    let same : length (l .pages) ≡ length (a .pages .now) = l .inv .3 in
-    let small : length (a .pages .now) < 18446744073709551616 = omega (arith, c .before .before .before .before .before .before .before .before .before .before .before .before .before .before .before .before .before .good) in
-    (ltb-true _ _ (sym (c .before .before .before .before .before .before .before .before .before .before .before .goes .ensures) ∙ c .before .before .before .before .before .before .before .before .before .before .if1 .taken), omega (arith, inside, same, small))
+    let at-loop = c .before .before .before .before .before .before .before .before .before .before .before .before .before in
+    let l = at-loop .loop in
+    let begun = at-loop .before .before .before .before .before in
+    let test = c .before .before .before .before .before .before .before .before .before .before .before .before .goes .ensures in
+    let held = c .before .before .before .before .before .before .before .before .before .before .before .if1 .taken in
+    let inside = goes-inside (l .inv .0) test held .2 in
+    let same : length (l .pages) ≡ length (begun .args .pages .now) = l .inv .3 in
+    let small : length (begun .args .pages .now) < 18446744073709551616 = omega (arith, begun .good) in
+    (ltb-true _ _ (sym test ∙ held), omega (arith, inside, same, small))
 
 loop-less : tie.Need-loop-less Inv-loop μ-loop
 loop-less c =
-    let l = c .before .before .before .before .before .before .before .before .before .before .before .before .before .loop in
-    let p = c .before .before .before .before .before .before .before .before .before .before .before .before .before .before .before .planned .result in
-    let more = ltb-true (l .at .turns) (p .turns) (sym (c .before .before .before .before .before .before .before .before .before .before .before .before .goes .ensures) ∙ c .before .before .before .before .before .before .before .before .before .before .before .if1 .taken) in
+    let at-loop = c .before .before .before .before .before .before .before .before .before .before .before .before .before .before in
+    let l = at-loop .loop in
+    let p = at-loop .before .before .planned .result in
+    let more = ltb-true (l .at .turns) (p .turns)
+    (sym (c .before .before .before .before .before .before .before .before .before .before .before .before .before .goes .ensures) ∙ c .before .before .before .before .before .before .before .before .before .before .before .before .if1 .taken) in
     let next : c .next .result .turns ≡ l .at .turns + 1 = ap (λ x. x .turns) (c .next .ensures) in
     omega (arith, more, next)
 
 loop-again : tie.Need-loop-again Inv-loop μ-loop
 loop-again c =
-    let l = c .before .before .before .before .before .before .before .before .before .before .before .before .before .loop in
-    let said = c .before .before .before .before .before .before .before .turn-at .ensures in
-    let t-long : length (c .before .before .before .before .before .before .before .turn-at .last .1 .1 .0) ≡ length (l .t) = search needs in
-    let pages-long : length (c .before .before .before .before .before .before .before .turn-at .last .1 .1 .1 .1 .0) ≡ length (l .pages) = search needs in
-    let replies-long : length (c .before .before .put .last .0) ≡ length (l .replies) = search needs in (
-      goes-next (l .inv .0) (c .before .before .before .before .before .before .before .before .before .before .before .before .goes .ensures) (c .before .before .before .before .before .before .before .before .before .before .before .if1 .taken) _ _ _ _ _ _ (c .before .before .before .before .before .before .before .before .before .before .process-at .ensures)
-          (said .0) (said .1 .0) (said .1 .1) (c .before .before .put .ensures) (c .next .ensures) pages-long,
+    let at-turn = c .before .before .before .before .before .before .before .before in
+    let at-test = at-turn .before .before .before .before in
+    let l = at-test .before .before .loop in
+    let said = at-turn .turn-at .ensures in
+    let put = c .before .before .before .put in
+    let day = c .before .day-in .ensures in
+    let t-long : length (at-turn .turn-at .last .1 .1 .0) ≡ length (l .t) = search (needs, c .before .before .before .before .before .before .before .t .given) in
+    let pages-long : length (at-turn .turn-at .last .1 .1 .1 .1 .0) ≡ length (l .pages) = search (needs, c .before .before .before .before .before .before .pages .given) in
+    let replies-long : length (put .last .0) ≡ length (l .replies) = search (needs, c .before .before .replies .given) in (
+      goes-next (l .inv .0) (at-test .before .goes .ensures) (at-test .if1 .taken) _ _ _ _ _ _ (at-turn .before .before .before .process-at .ensures)
+          (said .0) (said .1 .0) (said .1 .1) (put .ensures)
+          (c .next .ensures ∙ ap (λ d. reachedAt d (l .at .turns + 1) (l .at .words + at-test .before .before .before .before .planned .result .page)) day) pages-long,
       t-long ∙ l .inv .1,
       replies-long ∙ l .inv .2,
       pages-long ∙ l .inv .3,
@@ -115,6 +129,7 @@ run-spec =
     process-at-requires
     turn-at-requires
     put-requires
+    day-in-requires
     next-requires
     loop-less
     loop-again

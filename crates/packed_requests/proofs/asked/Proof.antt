@@ -1,14 +1,14 @@
--- `nq::asked` meets its contract.
+-- `packed_requests::asked` meets its contract.
 use mathlib.Core.Path.{sym, ap, _∙_}
 use mathlib.Core.List.{[]}
 use Rattle.snapshot.specs.Replies.{replyOf}
 use Rattle.requests.specs.Requests.{pageAfter}
 use Rattle.packed_table.specs.Tables.{steppedIn, tableAfter}
 use Rattle.numbers.specs.Replies.{replyWith, replyNumbers}
-use Rattle.nq.specs.Requests.{replyTo}
+use Rattle.packed_requests.specs.Requests.{replyTo}
 use borrow.Author.Needs.{needs}
-use Rattle.nq.proofs.asked.Statement.{statement}
-use Rattle.nq.proofs.asked.Tie as tie
+use Rattle.packed_requests.proofs.asked.Statement.{statement}
+use Rattle.packed_requests.proofs.asked.Tie as tie
 
 is-kind-requires : tie.Need-is-kind-requires
 is-kind-requires c κs = search needs

@@ -1,0 +1,2 @@
+-- What a request by numbers comes to.
+pub mod Requests
