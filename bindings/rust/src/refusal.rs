@@ -39,8 +39,7 @@ pub enum Refusal {
     /// left.
     CannotArise = 11,
     /// 13: a run of turns is lent too few places for its answers or its pages.
-    /// [`Register::run`](crate::Register::run) lends enough for eight desks, so that only a day that
-    /// was taken up with more is refused so.
+    /// [`Register::run`](crate::Register::run) always lends enough.
     TableShort = 13,
 }
 

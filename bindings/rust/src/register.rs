@@ -186,11 +186,10 @@ impl Register {
     ///
     /// The run itself is refused, and none of its turns given, with [`OpenState`](Refusal::OpenState)
     /// if the day is not open, then with [`LentSize`](Refusal::LentSize) if it was taken up without
-    /// exactly one record for each desk, then with [`TableShort`](Refusal::TableShort) if it was taken
-    /// up with more than eight desks and the list is not empty. Whatever else is wrong is answered to
-    /// each turn.
+    /// exactly one record for each desk. Whatever else is wrong is answered to each turn.
     pub fn run(&mut self, desks: &[u32]) -> Result<Vec<Result<Answer, Refusal>>, Refusal> {
-        let n = Register::MOST_DESKS.min(self.desks as usize);
+        // What a day asks for that has a record for each desk; any other is refused before.
+        let n = self.records.len().min(self.desks as usize);
         let mut replies = vec![Reply::default(); desks.len()];
         let mut pages = vec![0; n * desks.len()];
         let day = (self.desks, self.event);

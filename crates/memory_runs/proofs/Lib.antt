@@ -1,3 +1,2 @@
--- What the walks of this crate carry, and what a run of Figure 3 comes to.
+-- What the walks of this crate carry.
 pub mod Types
-pub mod Ran

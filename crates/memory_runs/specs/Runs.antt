@@ -13,16 +13,10 @@ use Rattle.unbounded.specs.Days.{figure3, stepped}
 use Rattle.memory.specs.Tables.{stateOf}
 use Rattle.runs.specs.declared.Plan.{Plan}
 use Rattle.runs.specs.declared.Reached.{Reached}
-use Rattle.runs.specs.declared.RunOutcome.{RunOutcome}
-use Rattle.runs.specs.Plans.{checkOf, outcomeAt}
 
 -- a run on a day and a lent table: its answers are those of the core
 abbrev pub runOn : Day → List Process → List ℕ → List Answer → List ℕ → RunResult (State Process) Answer
 runOn d ps ds answers pages = ran (figure3 ascending) (λ r. r .answer) (stateOf d ps) ds answers pages
-
--- the day, and the refusal of the run itself, if any
-abbrev pub runOutcomeOf : RunResult (State Process) Answer → RunOutcome
-runOutcomeOf r = outcomeAt (r .state .day) (checkOf (r .refusal))
 
 -- the turn of process d where a run has come so far
 abbrev pub turnAt : Reached → Plan → List Process → ℕ → List ℕ → Result (State Process)

@@ -1,5 +1,5 @@
-// A run of turns on a lent table of process records. Which turns there are and where their answers and pages go, crate `runs` says for
-// every method; crate `memory` gives the turns.
+// A run of turns on a lent table of process records. Which turns there are and where their answers and pages go, crate `runs`
+// says for every method; crate `memory` gives the turns.
 use memory::table;
 use runs::Plan;
 use runs::Reached;
@@ -11,9 +11,9 @@ use unbounded::Process;
 ghost use Prim.Native.Nat.{_+_, _≤_, _<_};
 ghost use mathlib.Core.Path.{_≡_};
 ghost use lib.ListN.{length, set};
-ghost use Rattle.memory.specs.Tables.{stateOf, outcomeOf};
-ghost use Rattle.runs.specs.Plans.{laidFrom};
-ghost use Rattle.memory_runs.specs.Runs.{turnAt, runOn, runOutcomeOf};
+ghost use Rattle.memory.specs.Tables.{outcomeOf};
+ghost use Rattle.runs.specs.Plans.{laidFrom, runOutcomeOf};
+ghost use Rattle.memory_runs.specs.Runs.{turnAt, runOn};
 
 // The next turn, of process d: it is lent its own words of the page table.
 fn turn_at(at: Reached, plan: Plan, ps: &mut [Process], d: u32, pages: &mut [u32]) -> Outcome
@@ -47,7 +47,8 @@ pub fn run(
     answers: &mut [Answer],
     pages: &mut [u32],
 ) -> RunOutcome
-    ensures { λ x. ⌜ x ≡ runOutcomeOf (runOn day (now (ps .entry)) (now (list .entry)) (now (answers .entry)) (now (pages .entry))) ⌝ }
+    ensures { λ x. ⌜ x ≡ runOutcomeOf
+        (runOn day (now (ps .entry)) (now (list .entry)) (now (answers .entry)) (now (pages .entry))) ⌝ }
     ensures { λ x. ⌜ now (ps .exit) ≡
         runOn day (now (ps .entry)) (now (list .entry)) (now (answers .entry)) (now (pages .entry)) .state .table ⌝ }
     ensures { λ x. ⌜ now (answers .exit) ≡

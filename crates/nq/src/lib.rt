@@ -110,8 +110,8 @@ pub extern "C" fn nq_run(
     replies: &mut [[u32; 7]],
     pages: &mut [u32],
 ) -> ReplyNumbers
-    ensures { λ r. ⌜ r ≡ runReply
-        (runIn (dayWith count event) (now (table .entry)) (now (processes .entry)) (now (replies .entry)) (now (pages .entry))) ⌝ }
+    ensures { λ r. ⌜ r ≡ runReply (runIn (dayWith count event) (now (table .entry)) (now (processes .entry))
+        (now (replies .entry)) (now (pages .entry))) ⌝ }
     ensures { λ r. ⌜ now (table .exit) ≡ runIn (dayWith count event) (now (table .entry)) (now (processes .entry))
         (now (replies .entry)) (now (pages .entry)) .state .table ⌝ }
     ensures { λ r. ⌜ now (replies .exit) ≡ runIn (dayWith count event) (now (table .entry)) (now (processes .entry))

@@ -1,1 +1,2 @@
--- Nothing is shared by the proofs of this crate.
+-- How a reply lies in a table.
+pub mod Laid

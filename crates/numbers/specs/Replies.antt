@@ -1,5 +1,5 @@
--- Answers as numbers: the paper's number of a refusal and the values of each case (`replyOf`, `readerReply`), each in its place, and 0
--- where a case has none. The numbers of answers, 0 to 6, are the library's own; the kinds of records are the day file's.
+-- Answers as numbers: the paper's number of a refusal and the values of each case (`replyOf`, `readerReply`), each in its place,
+-- and 0 where a case has none. The numbers of answers, 0 to 6, are the library's own; the kinds of records are the day file's.
 use Prim.Native.Nat.{ℕ, _≤_}
 use mathlib.Core.List.{List, [], _∷_}
 use mathlib.Core.Option.{Option, none, some}
@@ -38,7 +38,7 @@ abbrev pub runNumbers : Day → Option Refusal → ReplyNumbers
 runNumbers d none = replyWith d 6 0 0 0 0
 runNumbers d (some k) = replyWith d 0 (numberOf k) 0 0 0
 
--- its numbers in their order, as they lie in a table of replies
+-- the numbers of a reply in their order, as they lie in a table of replies
 abbrev pub replyWords : ReplyNumbers → List ℕ
 replyWords r = r .count ∷ r .event ∷ r .answer ∷ r .refusal ∷ r .lender ∷ r .at ∷ r .turns ∷ []
 

@@ -15,8 +15,8 @@ ghost use Rattle.numbers.specs.Requests.{requestNumbered, isKind};
 ghost use Rattle.numbers.specs.Replies.{dayWith, replyWith, replyNumbers, runNumbers, replyWords};
 ghost use Rattle.numbers.specs.Replies.{Short, recordWith, requestNumbers, recordNumbers};
 
-// The day after a request, its answer (0 refused, 1 opened, 2 called, 3 read, 4 page, 5 written, 6 a run), the number of the refusal, the
-// lender and the instant of a page, and the turns of a task.
+// The day after a request, its answer (0 refused, 1 opened, 2 called, 3 read, 4 page, 5 written, 6 a run), the number of the
+// refusal, the lender and the instant of a page, and the turns of a task.
 #[repr(C)]
 pub struct ReplyNumbers {
     pub count: u32,

@@ -19,8 +19,8 @@ use Rattle.numbers.specs.Requests.{requestNumbered, isKind}
 abbrev pub replyTo : {P : Type 0} → Result (State P) → ReplyNumbers
 replyTo r = replyNumbers (r .state .day) (replyOf [] (r .answer))
 
--- a request of any kind on a day, a packed table and a page list: what is replied, and what is left of the two. A kind that is none
--- is refused with 8
+-- a request of any kind on a day, a packed table and a page list: what is replied, and what is left of the two. A kind that is
+-- none is refused with 8
 module _ (d : Day) (t : List (List ℕ)) (kind process word : ℕ) (page : List ℕ) where
   abbrev pub resultOf : Result (State Process)
   resultOf = steppedIn d t (requestNumbered kind process word) page

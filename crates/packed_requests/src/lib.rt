@@ -1,5 +1,5 @@
-// Any request by numbers on a table of packed records. It is one function, which the library's requests and runs both call: so the
-// compiler keeps the step and its reply together.
+// Any request by numbers on a table of packed records. It is one function, which the library's requests and runs both call: so
+// the compiler keeps the step and its reply together.
 use numbers::ReplyNumbers;
 use snapshot::Day;
 use snapshot::Refusal;

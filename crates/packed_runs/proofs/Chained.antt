@@ -1,5 +1,5 @@
--- A run on words is the run of the definitions on the records that they are: the same refusal, replies and pages, and the words that
--- it leaves are the records that the run leaves. So all that holds of runs holds of the library's.
+-- A run on words is the run of the definitions on the records that they are: the same refusal, replies and pages, and the words
+-- that it leaves are the records that the run leaves. So all that holds of runs holds of the library's.
 use Prim.Native.Nat.{ℕ}
 use mathlib.Core.Path.{_≡_, refl, sym, ap, _∙_, subst}
 use mathlib.Core.List.{List, [], _∷_, _++_}
@@ -44,16 +44,19 @@ turns-unpacked w (p ∷ ds) d t replies pages long =
     let r = steppedIn d t (Turn p) page in
     let t′ = tableAfter t (Turn p) r in
     let rest = turns-unpacked w ds (r .state .day) t′ (drop 1 replies) (drop w pages) (long-after d t (Turn p) page long) in
-    let same = rest .0 ∙ ap (λ ps. turnsFrom (giveTurn (figure3 ascending)) toldIn w (stateOf (r .state .day) ps) ds (drop 1 replies)
-    (drop w pages)) (unpacked-after d t (Turn p) page long) in
-    (ap (λ q. record { state = q .state; refusal = none; answers = toldIn r ∷ q .answers; pages = r .page ++ q .pages }) same, rest .1)
+    let same = rest .0 ∙ ap (λ ps. turnsFrom (giveTurn (figure3 ascending)) toldIn w (stateOf (r .state .day) ps) ds
+    (drop 1 replies) (drop w pages)) (unpacked-after d t (Turn p) page long) in (
+      ap (λ q. record { state = q .state; refusal = none; answers = toldIn r ∷ q .answers; pages = r .page ++ q .pages }) same,
+      rest .1,
+    )
 
 pub run-unpacked : (d : Day) (t : List (List ℕ)) (ds : List ℕ) (replies : List (List ℕ)) (pages : List ℕ) → LongRows t →
     Same (runIn d t ds replies pages) (ran (figure3 ascending) toldIn (stateOf d (unpackedAll t)) ds replies pages)
 unfolding runIn ran
 run-unpacked d t ds replies pages long =
-    subst (λ m. Same (runIn d t ds replies pages) (runUnless (giveTurn (figure3 ascending)) toldIn n (found m) (stateOf d (unpackedAll t)) ds replies
-    pages)) (sym (records-long t)) (go (found (length t)))
+    subst (λ m. Same (runIn d t ds replies pages)
+    (runUnless (giveTurn (figure3 ascending)) toldIn n (found m) (stateOf d (unpackedAll t)) ds replies pages))
+    (sym (records-long t)) (go (found (length t)))
   where
     n : ℕ
     n = d .count

@@ -1,3 +1,3 @@
--- The loop of a run, and that runs on words are runs on records.
-pub mod Looped
+-- That runs on words are runs on records, and what the loop of a run needs of replies.
+pub mod Replied
 pub mod Chained

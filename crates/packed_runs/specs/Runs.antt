@@ -1,5 +1,5 @@
--- A run of turns (document 02, K4) on a table of packed records: the run of the definitions, each turn's table packed by the step that
--- gave it, and each answer as the numbers of its reply.
+-- A run of turns (document 02, K4) on a table of packed records: the run of the definitions, each turn's table packed by the step
+-- that gave it, and each answer as the numbers of its reply.
 use Prim.Native.Nat.{ℕ}
 use mathlib.Core.List.{List}
 use lib.ListN.{length, take, drop}
@@ -13,8 +13,6 @@ use Rattle.unbounded.specs.declared.Process.{Process}
 use Rattle.packed_table.specs.Tables.{tableAfter, steppedIn}
 use Rattle.runs.specs.declared.Plan.{Plan}
 use Rattle.runs.specs.declared.Reached.{Reached}
-use Rattle.runs.specs.declared.RunOutcome.{RunOutcome}
-use Rattle.runs.specs.Plans.{checkOf, outcomeAt}
 use Rattle.numbers.specs.Replies.{replyWords}
 use Rattle.packed_requests.specs.Requests.{replyTo}
 
@@ -32,16 +30,13 @@ giveIn s d page =
 abbrev pub toldIn : {P : Type 0} → Result (State P) → List ℕ
 toldIn r = replyWords (replyTo r)
 
+-- a run on a day and a table of packed records
 unfoldable pub runIn : Day → (table : List (List ℕ)) → List ℕ → (replies : List (List ℕ)) → (pages : List ℕ) →
     RunResult (State (List ℕ)) (List ℕ)
 runIn d t ds replies pages =
     let n = d .count in
     runUnless giveIn toldIn n (firstCause (runCauses n (length t) n (length ds) (length replies) (length pages)))
     (record { day = d; table = t }) ds replies pages
-
--- the day, and the refusal of the run itself, if any
-abbrev pub runOutcomeOf : RunResult (State (List ℕ)) (List ℕ) → RunOutcome
-runOutcomeOf r = outcomeAt (r .state .day) (checkOf (r .refusal))
 
 -- the turn of process d where a run has come so far
 abbrev pub turnAt : Reached → Plan → List (List ℕ) → ℕ → List ℕ → Result (State Process)

@@ -11,8 +11,8 @@ ghost use Rattle.snapshot.specs.declared.Request.the-variants.{Turn};
 ghost use Rattle.packed_table.specs.Tables.{tableAfter};
 ghost use Rattle.numbers.specs.Replies.{replyWords};
 ghost use Rattle.packed_requests.specs.Requests.{replyTo};
-ghost use Rattle.runs.specs.Plans.{laidFrom};
-ghost use Rattle.packed_runs.specs.Runs.{turnAt, runIn, runOutcomeOf};
+ghost use Rattle.runs.specs.Plans.{laidFrom, runOutcomeOf};
+ghost use Rattle.packed_runs.specs.Runs.{turnAt, runIn};
 
 // The next turn, of process d: it is lent its own words of the page table.
 fn turn_at(at: Reached, plan: Plan, t: &mut [[u32; 208]], d: u32, pages: &mut [u32]) -> ReplyNumbers
@@ -46,7 +46,8 @@ pub fn run(
     replies: &mut [[u32; 7]],
     pages: &mut [u32],
 ) -> RunOutcome
-    ensures { λ x. ⌜ x ≡ runOutcomeOf (runIn day (now (t .entry)) (now (list .entry)) (now (replies .entry)) (now (pages .entry))) ⌝ }
+    ensures { λ x. ⌜ x ≡ runOutcomeOf
+        (runIn day (now (t .entry)) (now (list .entry)) (now (replies .entry)) (now (pages .entry))) ⌝ }
     ensures { λ x. ⌜ now (t .exit) ≡
         runIn day (now (t .entry)) (now (list .entry)) (now (replies .entry)) (now (pages .entry)) .state .table ⌝ }
     ensures { λ x. ⌜ now (replies .exit) ≡

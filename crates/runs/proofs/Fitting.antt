@@ -36,7 +36,12 @@ module _ (count size page turns places words : ℕ) where
             placed = ltb-false places turns (passed .0);
             laid = ltb-false words (turns * page) (passed .1);
           }
-      go (some k) q = record { listed = omega arith; placed = omega arith; laid = subst (λ z. z ≤ words) (sym (zero-mul page)) (omega arith) }
+      go (some k) q =
+          record {
+            listed = omega arith;
+            placed = omega arith;
+            laid = subst (λ z. z ≤ words) (sym (zero-mul page)) (omega arith);
+          }
 
 -- a check is the refusal that it was made of
 pub check-back : (k : Option Refusal) → asOption (checkOf k) ≡ k

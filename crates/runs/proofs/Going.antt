@@ -25,7 +25,8 @@ module _ {S A : Type 0} (give : S → ℕ → List ℕ → Result S) (told : Res
     pub few : at .turns ≤ plan .turns
     pub fits : Fitting (plan .page) (plan .turns) (length list) (length answers) (length pages)
 
-  module _ (whole : RunResult S A) (at : Reached) (s : S) (answers : List A) (pages : List ℕ) (g : Going whole at s answers pages) where
+  module _ (whole : RunResult S A) (at : Reached) (s : S) (answers : List A) (pages : List ℕ)
+      (g : Going whole at s answers pages) where
     -- the next turn has its process, its place and its words
     pub next-inside : at .turns < plan .turns →
         (at .turns < length list) × (at .turns < length answers) × (at .words + plan .page ≤ length pages)
@@ -59,7 +60,8 @@ module _ {S A : Type 0} (give : S → ℕ → List ℕ → Result S) (told : Res
         (omega (arith, l, size)) (subst (λ m. m ≤ length answers) (sym size) (f .placed))
         (subst (λ m. m * plan .page ≤ length pages) (sym size) (f .laid)) in
         let second : Next (at .words) (getD list i 0) =
-        subst (Next (at .words)) (getD-take (plan .turns) list i 0 l) (subst (λ j. Next j (getD ds i 0)) (sym (g .words)) first) in
+        subst (Next (at .words)) (getD-take (plan .turns) list i 0 l)
+        (subst (λ j. Next j (getD ds i 0)) (sym (g .words)) first) in
         let w = g .words in
         let r = give s (getD list i 0) (take (plan .page) (drop (at .words) pages)) in
         record {

@@ -3,3 +3,4 @@ pub mod Halves
 pub mod Onward
 pub mod Fitting
 pub mod Going
+pub mod Looped

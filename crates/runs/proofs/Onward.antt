@@ -1,9 +1,9 @@
--- The loop of a run, for every method: where it has come to turn i, what is done lies in front of both tables, and the turns that are
--- left come to the whole run.
+-- The loop of a run, for every method: where it has come to turn i, what is done lies in front of both tables, and the turns that
+-- are left come to the whole run.
 use Prim.Native.Nat.{ℕ, suc, _+_, _*_, _≤_, _<_}
 use native.Mathlib.Nat.{zero-mul, mul-le-mul-right}
 use native.Mathlib.Omega.{arith}
-use mathlib.Core.Path.{_≡_, refl, sym, ap, _∙_}
+use mathlib.Core.Path.{_≡_, sym, ap, _∙_}
 use mathlib.Core.List.{List, [], _∷_, _++_, append-assoc}
 use mathlib.Core.Option.{Option, none, some}
 use lib.ListN.{length, getD, set, take, drop, length-append, length-drop, take-append-drop, drop-of-length-le}
@@ -11,6 +11,7 @@ use lib.Seq.{length-take-le, take-length, take-suc-set, drop-cons, take-at, drop
 use Rattle.snapshot.specs.declared.Refusal.{Refusal}
 use Rattle.snapshot.specs.Demand.{Result}
 use Rattle.snapshot.specs.Runs.{RunResult, turnsFrom, runUnless}
+use Rattle.snapshot.proofs.Runs.{turns-taken}
 use Rattle.runs.specs.Plans.{planOf, laidFrom}
 
 -- ---- a table that is filled from the front
@@ -61,11 +62,6 @@ module _ {S A : Type 0} (give : S → ℕ → List ℕ → Result S) (told : Res
       let rest = turnsFrom give told page s ds answers (drop j pages) in
       record { state = rest .state; refusal = k; answers = rest .answers; pages = take j pages ++ rest .pages }
 
-  turns-taken : (s : S) (ds : List ℕ) (answers : List A) (pages : List ℕ) → turnsFrom give told page s ds answers pages .refusal ≡ none
-  unfolding turnsFrom
-  turns-taken s [] answers pages = refl
-  turns-taken s (d ∷ ds) answers pages = refl
-
   -- a run gives the turns of its plan
   pub run-planned : (k : Option Refusal) (s : S) (ds : List ℕ) (answers : List A) (pages : List ℕ) →
       runUnless give told page k s ds answers pages
@@ -74,7 +70,12 @@ module _ {S A : Type 0} (give : S → ℕ → List ℕ → Result S) (told : Res
   run-planned none s ds answers pages =
       ap (λ es. turnsFrom give told page s es answers pages) (sym (take-length ds))
       ∙ (let t = turnsFrom give told page s (take (length ds) ds) answers pages in
-      λ z. record { state = t .state; refusal = turns-taken s (take (length ds) ds) answers pages z; answers = t .answers; pages = t .pages })
+      λ z. record {
+        state = t .state;
+        refusal = turns-taken give told page s (take (length ds) ds) answers pages z;
+        answers = t .answers;
+        pages = t .pages;
+      })
       ∙ ap (from-word none (take (length ds) ds) s answers pages) (sym (zero-mul page))
   run-planned (some k) s ds answers pages = ap (from-word (some k) [] s answers pages) (sym (zero-mul page))
 
@@ -83,7 +84,8 @@ module _ {S A : Type 0} (give : S → ℕ → List ℕ → Result S) (told : Res
       length ds ≤ length answers → length ds * page ≤ length pages →
       let r = give s (getD ds i 0) (take page (drop (i * page) pages)) in
       length (laidFrom (i * page) page (r .page) pages) ≡ length pages →
-      onward ds i s answers pages ≡ onward ds (i + 1) (r .state) (set answers i (told r)) (laidFrom (i * page) page (r .page) pages)
+      onward ds i s answers pages
+      ≡ onward ds (i + 1) (r .state) (set answers i (told r)) (laidFrom (i * page) page (r .page) pages)
   unfolding turnsFrom
   onward-next ds i s answers pages l a p k =
       let j = i * page in
@@ -105,7 +107,12 @@ module _ {S A : Type 0} (give : S → ℕ → List ℕ → Result S) (told : Res
       drop-set-lt (i + 1) answers i (told r) (omega arith) ∙ sym (drop-drop 1 i answers) in
       let x = turnsFrom give told page (r .state) (drop (i + 1) ds) (drop 1 (drop i answers)) (drop page (drop j pages)) in
       ap (λ es. let rest = turnsFrom give told page s es (drop i answers) (drop j pages) in
-      record { state = rest .state; refusal = none; answers = take i answers ++ rest .answers; pages = take j pages ++ rest .pages })
+      record {
+        state = rest .state;
+        refusal = none;
+        answers = take i answers ++ rest .answers;
+        pages = take j pages ++ rest .pages;
+      })
       (drop-cons ds i 0 l ∙ ap (λ z. d ∷ drop z ds) one)
       ∙ (λ z. record {
         state = x .state;

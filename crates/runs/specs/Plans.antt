@@ -5,6 +5,8 @@ use mathlib.Core.Option.{Option, none, some}
 use lib.ListN.{take, drop}
 use Rattle.snapshot.specs.declared.Day.{Day}
 use Rattle.snapshot.specs.declared.Refusal.{Refusal}
+use Rattle.snapshot.specs.Days.{State}
+use Rattle.snapshot.specs.Runs.{RunResult}
 use Rattle.admission.specs.declared.Check.{Check}
 use Rattle.admission.specs.declared.Check.the-variants.{Passed, Refused}
 use Rattle.runs.specs.declared.Plan.{Plan}
@@ -32,6 +34,10 @@ reachedAt d turns words = record { day = d; turns = turns; words = words }
 
 abbrev pub outcomeAt : Day → Check → RunOutcome
 outcomeAt d c = record { day = d; check = c }
+
+-- the day after a run, and the refusal of the run itself, if any
+abbrev pub runOutcomeOf : {P A : Type 0} → RunResult (State P) A → RunOutcome
+runOutcomeOf r = outcomeAt (r .state .day) (checkOf (r .refusal))
 
 -- xs with ys in place of the m elements from a on
 abbrev pub laidFrom : {A : Type 0} → (a m : ℕ) → (ys xs : List A) → List A

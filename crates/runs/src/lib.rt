@@ -1,9 +1,9 @@
-// A run of turns, whatever the method: when it is refused, how many turns it has, and which places of the two lent tables each turn
-// takes. A method gives the turns.
+// A run of turns, whatever the method: when it is refused, how many turns it has, and which places of the two lent tables each
+// turn takes. A method gives the turns.
 use admission::Check;
 use snapshot::Day;
 use snapshot::Refusal;
-ghost use Prim.Native.Nat.{_+_, _*_, _≤_, _<_};
+ghost use Prim.Native.Nat.{_+_, _*_, _<_};
 ghost use mathlib.Core.Path.{_≡_};
 ghost use lib.ListN.{length, getD};
 ghost use lib.Dec.{ltb};

@@ -37,11 +37,12 @@ pub record RunResult (S A : Type 0) : Type 0 where
   pub answers : List A
   pub pages : List ℕ
 
--- give s d page is a turn of process d that lends a page list, told what an answer table holds of its result, and page the words of
--- a page
+-- give s d page is a turn of process d that lends a page list, told what an answer table holds of its result, and page the words
+-- of a page
 module _ {S A : Type 0} (give : S → (process : ℕ) → (page : List ℕ) → Result S) (told : Result S → A) (page : ℕ) where
   -- "each is one turn. Answers go in a lent table in order, pages in a second table at n words a turn; every other place of both
-  -- remains": the first turn takes the first place of the one and the first words of the other, and the next follows, refused or not
+  -- remains": the first turn takes the first place of the one and the first words of the other, and the next follows, refused or
+  -- not
   unfoldable pub turnsFrom : S → List ℕ → (answers : List A) → (pages : List ℕ) → RunResult S A
   turnsFrom s [] answers pages = record { state = s; refusal = none; answers = answers; pages = pages }
   turnsFrom s (d ∷ ds) answers pages =
@@ -57,6 +58,7 @@ module _ {S A : Type 0} (give : S → (process : ℕ) → (page : List ℕ) → 
 -- ---- of a machine
 
 module _ (M : Machine) where
+  -- a turn of process d
   abbrev pub giveTurn : State (M .Process) → ℕ → List ℕ → Result (State (M .Process))
   giveTurn s d page = stepped M s (turnOf d page)
 
@@ -65,6 +67,7 @@ module _ (M : Machine) where
   runRefusal s turns places words =
       firstCause (runCauses (s .day .count) (length (s .table)) (M .pageLength (s .day .count)) turns places words)
 
+  -- a run on any day, table, answer table and page table
   unfoldable pub ran : {A : Type 0} → (Result (State (M .Process)) → A) → State (M .Process) → List ℕ → List A → List ℕ →
       RunResult (State (M .Process)) A
   ran told s ds answers pages =
@@ -78,21 +81,40 @@ pub data Asked : Type 0 where
   one : Item → Asked
   run : (processes : List ℕ) → (answers : List Answer) → (pages : List ℕ) → Asked
 
--- the turns of a run one by one, each with its own words of the page table
-abbrev pub turnsOf : (page : ℕ) → List ℕ → (pages : List ℕ) → List Item
-turnsOf page [] pages = []
-turnsOf page (d ∷ ds) pages = turnOf d (take page pages) ∷ turnsOf page ds (drop page pages)
+-- the refusal that is expected of a run on a day that was opened and is lent its own table, from the run alone: 13 or none
+abbrev pub expectedRun : (page : ℕ) → List ℕ → List Answer → (pages : List ℕ) → Option Refusal
+expectedRun page ds answers pages =
+    firstCause ((isCramped page (length ds) (length answers) (length pages), TableShort) ∷ [])
 
 -- nothing comes of a run that is refused
 abbrev pub unlessRefused : {A : Type 0} → Option Refusal → List A → List A
 unlessRefused none xs = xs
 unlessRefused (some k) xs = []
 
-module _ (M : Machine) (n : ℕ) where
+-- the turns of a run one by one, each with its own words of the page table
+abbrev pub turnsOf : (page : ℕ) → List ℕ → (pages : List ℕ) → List Item
+turnsOf page [] pages = []
+turnsOf page (d ∷ ds) pages = turnOf d (take page pages) ∷ turnsOf page ds (drop page pages)
+
+-- the items that a list is one by one
+abbrev pub oneByOne : (page : ℕ) → List Asked → List Item
+oneByOne page [] = []
+oneByOne page (one x ∷ qs) = x ∷ oneByOne page qs
+oneByOne page (run ds answers pages ∷ qs) =
+    unlessRefused (expectedRun page ds answers pages) (turnsOf page ds pages) ++ oneByOne page qs
+
+module _ (M : Machine) where
   -- a run whose answers are those of the core
   abbrev pub answered : State (M .Process) → List ℕ → List Answer → List ℕ → RunResult (State (M .Process)) Answer
   answered s ds answers pages = ran M (λ r. r .answer) s ds answers pages
 
+  -- the state after a whole list, each lent what the one before left
+  abbrev pub stateAfterAll : State (M .Process) → List Asked → State (M .Process)
+  stateAfterAll s [] = s
+  stateAfterAll s (one x ∷ qs) = stateAfterAll (stepped M s x .state) qs
+  stateAfterAll s (run ds answers pages ∷ qs) = stateAfterAll (answered s ds answers pages .state) qs
+
+module _ (M : Machine) (n : ℕ) where
   -- what is heard of the turns of a run on a day for n processes: read off the two tables that it left
   abbrev pub heardTurns : List ℕ → List Answer → List ℕ → List (Heard (M .Value))
   heardTurns [] answers pages = []
@@ -100,29 +122,36 @@ module _ (M : Machine) (n : ℕ) where
       record { seen = turn d; answer = getD answers 0 Opened; shown = M .shown n (take (M .pageLength n) pages) }
       ∷ heardTurns ds (drop 1 answers) (drop (M .pageLength n) pages)
 
-  -- of a whole list, each lent what the one before left: the state after it, what is heard of it, and the items that it is one by one
-  abbrev pub stateAfterAll : State (M .Process) → List Asked → State (M .Process)
-  stateAfterAll s [] = s
-  stateAfterAll s (one x ∷ qs) = stateAfterAll (stepped M s x .state) qs
-  stateAfterAll s (run ds answers pages ∷ qs) = stateAfterAll (answered s ds answers pages .state) qs
-
+  -- what is heard of a whole list
   abbrev pub heardOfAll : State (M .Process) → List Asked → List (Heard (M .Value))
   heardOfAll s [] = []
   heardOfAll s (one x ∷ qs) =
       let r = stepped M s x in
-      record { seen = sees x; answer = r .answer; shown = M .shown n (take (M .pageLength n) (r .page)) } ∷ heardOfAll (r .state) qs
+      record { seen = sees x; answer = r .answer; shown = M .shown n (take (M .pageLength n) (r .page)) }
+      ∷ heardOfAll (r .state) qs
   heardOfAll s (run ds answers pages ∷ qs) =
-      let r = answered s ds answers pages in
+      let r = answered M s ds answers pages in
       unlessRefused (r .refusal) (heardTurns ds (r .answers) (r .pages)) ++ heardOfAll (r .state) qs
 
-  abbrev pub oneByOne : State (M .Process) → List Asked → List Item
-  oneByOne s [] = []
-  oneByOne s (one x ∷ qs) = x ∷ oneByOne (stepped M s x .state) qs
-  oneByOne s (run ds answers pages ∷ qs) =
-      let r = answered s ds answers pages in
-      unlessRefused (r .refusal) (turnsOf (M .pageLength n) ds pages) ++ oneByOne (r .state) qs
+  -- of one run: it is refused as expected, and "every other place of both remains"; all of them where it is refused
+  pub record RunFits (ds : List ℕ) (answers : List Answer) (pages : List ℕ)
+      (r : RunResult (State (M .Process)) Answer) : Type 0 where
+    pub refused : r .refusal ≡ expectedRun (M .pageLength n) ds answers pages
+    pub answersRemain :
+        let turns = length (unlessRefused (r .refusal) ds) in
+        drop turns (r .answers) ≡ drop turns answers
+    pub pagesRemain :
+        let words = length (unlessRefused (r .refusal) ds) * M .pageLength n in
+        drop words (r .pages) ≡ drop words pages
+
+  abbrev pub RunsFit : State (M .Process) → List Asked → Type 0
+  RunsFit s [] = Unit {0}
+  RunsFit s (one x ∷ qs) = RunsFit (stepped M s x .state) qs
+  RunsFit s (run ds answers pages ∷ qs) =
+      let r = answered M s ds answers pages in RunFits ds answers pages r × RunsFit (r .state) qs
 
   -- "Everything equals giving the turns one by one"
   pub record SameOneByOne (s : State (M .Process)) (qs : List Asked) : Type 0 where
-    pub heardSame : heardOfAll s qs ≡ heard (method M n) s (oneByOne s qs)
-    pub stateSame : stateAfterAll s qs ≡ stateAfter (method M n) s (oneByOne s qs)
+    pub heardSame : heardOfAll s qs ≡ heard (method M n) s (oneByOne (M .pageLength n) qs)
+    pub stateSame : stateAfterAll M s qs ≡ stateAfter (method M n) s (oneByOne (M .pageLength n) qs)
+    pub runsFit : RunsFit s qs

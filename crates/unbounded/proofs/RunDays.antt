@@ -15,7 +15,7 @@ use Rattle.unbounded.specs.Days.{mostReads, unsound}
 use Rattle.unbounded.specs.RunDays.{left, runDays}
 
 pub run-days-follow : map left runDays ≡ map (λ d. d .expected) runDays
-unfolding runDays turnsFrom ran Days.openedFor stepped step isPast refusal openedBy advance calledBy turnBy accept verdict laid readInto
-    cleared pageOf differs begin position placeAt firstAfter secondAfter endAfter decision marksAfter afterRead foundBy written turned
-    mostReads unsound
+unfolding runDays turnsFrom ran Days.openedFor stepped step isPast refusal openedBy advance calledBy turnBy accept verdict laid
+    readInto cleared pageOf differs begin position placeAt firstAfter secondAfter endAfter decision marksAfter afterRead foundBy
+    written turned mostReads unsound
 run-days-follow = refl

@@ -21,7 +21,8 @@ use Rattle.snapshot.specs.declared.Refusal.{Refusal}
 use Rattle.snapshot.proofs.Lists.{length-over, getD-over, getD-over-past, getD-map-below}
 use Rattle.snapshot.proofs.DoubleCollect.{Ends, lender, verdict-ends}
 use Rattle.snapshot.proofs.Admitted.{admitted-turn}
-use Rattle.snapshot.proofs.Stepped.{refusal-changes-nothing, acceptance-does, grown, Holding, step-holds, opened-holds, grown-keeps}
+use Rattle.snapshot.proofs.Stepped.{refusal-changes-nothing, acceptance-does}
+use Rattle.snapshot.proofs.Stepped.{grown, Holding, step-holds, opened-holds, grown-keeps}
 use Rattle.unbounded.specs.declared.Register.{Register}
 use Rattle.unbounded.specs.declared.Process.{Process}
 use Rattle.unbounded.specs.declared.Task.{Task}
@@ -232,7 +233,8 @@ module _ (o : Order) (n : ℕ) (P : Permutes n o) (z : 0 < n) where
   calls-whole j p l w = whole-begin n l p w (taskOf j 0)
 
   pub turns-whole : (i now : ℕ) (other : Process) (page : List ℕ) (p : Process) → n ≤ 8 → isIdle (p .task) ≡ false →
-      ((j : ℕ) → reads o n (p .task) ≡ some j → j < n → Whole other) → Whole p → Whole (figure3 o .turned n i now other page p .state)
+      ((j : ℕ) → reads o n (p .task) ≡ some j → j < n → Whole other) → Whole p →
+      Whole (figure3 o .turned n i now other page p .state)
   turns-whole i now other page p l busy read w =
       whole-turned n l p w o P now (other .register) page
       (λ j q. omega (arith, read j q (reads-within o n P z (p .task) j q) .register))

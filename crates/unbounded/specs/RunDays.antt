@@ -1,11 +1,10 @@
--- Runs of turns on chosen days (document 02, K4), as one list: refused turns among others, tables that are just long enough, longer and
--- one place short, the order of 10, 6 and 13, no turns at all, and a day of nine processes; with all that is left.
+-- Runs of turns on chosen days (document 02, K4), as one list: refused turns among others, tables that are just long enough,
+-- longer and one place short, the order of 10, 6 and 13, no turns at all, and a day of nine processes.
 use Prim.Native.Nat.{ℕ}
 use mathlib.Core.List.{List, [], _∷_, _++_, map}
 use mathlib.Core.Option.{Option, none, some}
 use lib.ListN.{replicate}
 use Rattle.snapshot.specs.declared.Refusal.{Refusal}
-use Rattle.snapshot.specs.declared.Answer.{Answer}
 use Rattle.snapshot.specs.declared.Answer.the-variants.{Opened}
 use Rattle.snapshot.specs.Refusals.{numberOf}
 use Rattle.snapshot.specs.Lists.{eachFrom}
@@ -18,14 +17,16 @@ use Rattle.unbounded.specs.Registers.{ascending}
 use Rattle.unbounded.specs.Processes.{zeroProcess}
 use Rattle.unbounded.specs.Days.{figure3, method, openedFor}
 
--- what a run leaves: its own refusal, if any, by its number, the event number, the replies in the answer table, and the page table
+-- what a run leaves but the table of records: its own refusal, if any, by its number, the event number, the replies in the answer
+-- table, and the page table
 pub record Left : Type 0 where
   pub refusal : Option ℕ
   pub event : ℕ
   pub replies : List (Reply ℕ)
   pub pages : List ℕ
 
--- a run of these processes, with two tables of so many places; an answer that was there before is `Opened`, the words are 90, 91 and on
+-- a run of these processes, with two tables of so many places; an answer that was there before is `Opened`, the words are 90, 91
+-- and on
 pub record RunDay : Type 0 where
   pub state : State Process
   pub processes : List ℕ
@@ -43,7 +44,8 @@ wordsFrom first words = eachFrom (λ i. i) words first
 
 abbrev pub left : RunDay → Left
 left x =
-    let r = ran (figure3 ascending) (λ y. y .answer) (x .state) (x .processes) (replicate (x .places) Opened) (wordsFrom 90 (x .words)) in
+    let r = ran (figure3 ascending) (λ y. y .answer) (x .state) (x .processes) (replicate (x .places) Opened)
+    (wordsFrom 90 (x .words)) in
     record {
       refusal = numbered (r .refusal);
       event = r .state .day .event;

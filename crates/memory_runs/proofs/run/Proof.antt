@@ -1,7 +1,7 @@
 -- A loop that gives one turn of the list at a time. The list is handed on to `process_at`; the table and the page table are lent
 -- to `turn_at`, and then the answer table to `put`. Each turn leaves fewer to give.
 use mathlib.Core.Path.{_≡_, refl, _∙_}
-use Prim.Native.Nat.{ℕ, _+_, _-_, _<_}
+use Prim.Native.Nat.{ℕ, _+_, _-_, _≤_, _<_}
 use native.Mathlib.Nat.{lt-of-le-of-lt}
 use native.Mathlib.Omega.{arith}
 use mathlib.Core.List.{List, [], _∷_, _++_}
@@ -12,19 +12,21 @@ use Rattle.walks.proofs.Walking.{_▹_, begins-four, four-open, brings, copies-
 use Rattle.walks.proofs.Walking.{field-seen, seen, all-seen, forgets, while-loops, tests, calls-passed-is, lends-again, calls-two}
 use Rattle.walks.proofs.Walking.{calls-lent, as-long, room-for, ends-four, callee, given, nothing-asked, asks-nothing, four-given}
 use Rattle.walks.proofs.Walking.{three-said, unit-said, id⊢}
+use Rattle.snapshot.specs.declared.Day.{Day}
 use Rattle.snapshot.specs.declared.Answer.{Answer}
 use Rattle.snapshot.specs.Demand.{Result}
 use Rattle.snapshot.specs.Days as Days
-use Rattle.snapshot.specs.Runs.{RunResult}
+use Rattle.snapshot.specs.Runs.{RunResult, giveTurn, ran}
 use Rattle.unbounded.specs.declared.Process.{Process}
-use Rattle.memory.specs.Tables.{stateOf, outcomeOf}
+use Rattle.unbounded.specs.Registers.{ascending}
+use Rattle.unbounded.specs.Days.{figure3}
+use Rattle.memory.specs.Tables.{outcomeOf}
 use Rattle.runs.specs.declared.Plan.{Plan}
 use Rattle.runs.specs.declared.Reached.{Reached}
-use Rattle.runs.specs.Plans.{reachedAt, outcomeAt, laidFrom}
-use Rattle.memory_runs.specs.Runs.{turnAt}
+use Rattle.runs.specs.Plans.{reachedAt, outcomeAt, runOutcomeOf, laidFrom}
+use Rattle.memory_runs.specs.Runs.{turnAt, runOn}
 use Rattle.memory.proofs.Types.{a-process, a-day, an-answer, an-outcome}
-use Rattle.runs.proofs.Going.{next-inside, going-next}
-use Rattle.memory_runs.proofs.Ran.{give, told, Goes, plan, whole, begins, ends}
+use Rattle.runs.proofs.Looped.{wholeFrom, Goes, plan, goes-first, goes-inside, goes-next, goes-last}
 use Rattle.memory_runs.proofs.Types.{a-plan, a-reached, a-run-outcome, its-count, outcome-day}
 use Rattle.runs.proofs.planned as planned
 use Rattle.runs.proofs.planned.Met as planned-met
@@ -50,6 +52,12 @@ use Rattle.memory_runs.proofs.run.Code as code
 abbrev ps : List (Param 4)
 ps = value a-day ∷ lent 0 tt a-process ∷ shared 1 tt a-u32 ∷ lent 2 tt an-answer ∷ lent 3 tt a-u32 ∷ []
 
+abbrev give : Days.State Process → ℕ → List ℕ → Result (Days.State Process)
+give = giveTurn (figure3 ascending)
+
+abbrev told : Result (Days.State Process) → Answer
+told r = r .answer
+
 -- a turn of a run by plan p that is to come to whole, and had xs, ys and zs at first
 record State (p : Plan) (ds : List ℕ) (whole : RunResult (Days.State Process) Answer) (xs : List Process) (ys : List Answer)
     (zs : List ℕ) : Type 0 where
@@ -61,7 +69,7 @@ record State (p : Plan) (ds : List ℕ) (whole : RunResult (Days.State Process) 
   pub table-long : length table ≡ length xs
   pub answers-long : length answers ≡ length ys
   pub pages-long : length pages ≡ length zs
-  pub goes : Goes p ds whole at table answers pages
+  pub goes : Goes give told p ds whole at table answers pages
 
 -- the turn that is given, and the next
 module _ {p : Plan} {ds : List ℕ} {whole : RunResult (Days.State Process) Answer} {xs : List Process} {ys : List Answer}
@@ -90,9 +98,19 @@ module _ {p : Plan} {ds : List ℕ} {whole : RunResult (Days.State Process) Answ
         table-long = k ∙ s .table-long;
         answers-long = k′ ∙ s .answers-long;
         pages-long = k″ ∙ s .pages-long;
-        goes = going-next give told p ds whole (s .at) (stateOf (s .at .day) (s .table)) (s .answers) (s .pages) (s .goes) l
-            (gives .state .day) k″;
+        goes = goes-next give told (s .goes) l (getD ds (s .at .turns) 0) at′ (gives .state .table) answers′ pages′ refl refl
+            refl refl refl k″;
       }
+
+-- what the contract says
+comes-to : (day : Day) (xs : List Process) (ds : List ℕ) (ys : List Answer) (zs : List ℕ) (p : Plan) →
+    p ≡ plan give told (day .count) day xs ds ys zs → (at : Reached) (xs′ : List Process) (ys′ : List Answer) (zs′ : List ℕ) →
+    Goes give told p ds (wholeFrom give told p ds day xs ys zs) at xs′ ys′ zs′ → p .turns ≤ at .turns →
+    let r = runOn day xs ds ys zs in
+    (outcomeAt (at .day) (p .check) ≡ runOutcomeOf r) × (xs′ ≡ r .state .table) × (ys′ ≡ r .answers) × (zs′ ≡ r .pages)
+unfolding ran
+comes-to day xs ds ys zs p planned at xs′ ys′ zs′ g last =
+    goes-last give told (day .count) day xs ds ys zs p (reachedAt day 0 0) planned refl at xs′ ys′ zs′ g last
 
 fewer : (i n : ℕ) → i < n → n - (i + 1) < n - i
 fewer i n l = omega (arith, l)
@@ -135,12 +153,12 @@ run-spec 𝓤 H 𝓜 𝓖 𝓡 =
     counts ! refl refl (tt, refl) ▹ counts ! refl refl (tt, refl) ▹
     counts ! refl refl (tt, refl) ▹ counts ! refl refl (tt, refl) ▹
     gets-some ! planned-is ((tt, tt, refl), tt) (asks-nothing 𝓤)
-    (λ p. p ≡ plan day (table .now) ds (answers .now) (pages .now)) (λ q ws. id⊢ 𝓤 _) (λ p p-as p-is.
+    (λ p. p ≡ plan give told (day .count) day (table .now) ds (answers .now) (pages .now)) (λ q ws. id⊢ 𝓤 _) (λ p p-as p-is.
     gets ! begin-is (reachedAt day 0 0) ((tt, tt, refl), tt) (asks-nothing 𝓤) (λ q ws. id⊢ 𝓤 _) (λ at-is.
     forgets ! 9 ▹
     while-loops 𝓤 H 𝓜 𝓖 𝓡 code.env !
-    (λ (s : State p ds (whole day (table .now) ds (answers .now) (pages .now)) (table .now) (answers .now) (pages .now)).
-    p .turns - s .at .turns)
+    (λ (s : State p ds (wholeFrom give told p ds day (table .now) (answers .now) (pages .now)) (table .now) (answers .now)
+    (pages .now)). p .turns - s .at .turns)
     (λ s. room ∷ cellsOf κs ps a are ++ (holds a-u32 (day .count) (its-count .fine-get day (are .0)) ∷ holds a-plan p p-is
     ∷ holds a-reached (s .at) (s .at-is) ∷ []))
     (λ s. four-open a-process a-u32 an-answer a-u32 κs qs table list answers pages (s .table) (s .answers) (s .pages))
@@ -150,7 +168,7 @@ run-spec 𝓤 H 𝓜 𝓖 𝓡 =
     tests ! refl tt
     (λ held.
     let l = ltb→lt i (p .turns) held in
-    let inside = next-inside give told p ds _ (s .at) (stateOf (s .at .day) (s .table)) (s .answers) (s .pages) (s .goes) l in
+    let inside = goes-inside give told (s .goes) l in
     let pages-room = room-for a-u32 (s .pages-long) pages-fits in
     calls-passed-is ! a-u32 (κs .1 .0) (qs .1 .0) (list .ptr .0) (list .ptr .1) (list .name) ds (are .1 .1 .0 .0 .1) process-at-is
     (getD ds i 0) ((tt, tt, refl), (refl, tt)) (given 𝓤 (inside .0)) (λ q ws. id⊢ 𝓤 _) (λ _.
@@ -170,8 +188,8 @@ run-spec 𝓤 H 𝓜 𝓖 𝓡 =
     forgets ! 9 ▹ again (after s l at-is k k′ k″) (fewer i (p .turns) l))))))
     (λ failed. leaves _ _ (
     let o = outcomeAt (s .at .day) (p .check) in
-    let said = ends day (table .now) ds (answers .now) (pages .now) p p-as (s .at) (s .table) (s .answers) (s .pages) (s .goes)
-    (nltb→le i (p .turns) failed) in
+    let said = comes-to day (table .now) ds (answers .now) (pages .now) p p-as (s .at) (s .table) (s .answers) (s .pages)
+    (s .goes) (nltb→le i (p .turns) failed) in
     gets ! end-is o ((tt, tt, refl), tt) (asks-nothing 𝓤) (λ q ws. id⊢ 𝓤 _) (λ is.
     ends-four ! ps a-run-outcome c κs qs a h o is a-process a-u32 an-answer a-u32 table list answers pages
     (s .table) table-fits (s .table-long) (s .answers) answers-fits (s .answers-long) (s .pages) pages-fits (s .pages-long)
@@ -187,5 +205,5 @@ run-spec 𝓤 H 𝓜 𝓖 𝓡 =
       table-long = refl;
       answers-long = refl;
       pages-long = refl;
-      goes = begins day (table .now) ds (answers .now) (pages .now) p p-as;
+      goes = goes-first give told (day .count) day (table .now) ds (answers .now) (pages .now) p (reachedAt day 0 0) p-as refl;
     }) refl))))

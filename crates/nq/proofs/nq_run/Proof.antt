@@ -28,7 +28,8 @@ returns c =
     let a = c .before .before .before .before .before .before .before .before .before .before .before .args in
     let r = runIn (dayWith (a .count) (a .event)) (a .table .now) (a .processes .now) (a .replies .now) (a .pages .now) in
     let said = c .before .before .before .before .before .run .ensures in (
-      c .run-reply .ensures ∙ ap (λ o. runNumbers (o .day) (asOption (o .check))) (said .0) ∙ ap (runNumbers (r .state .day)) (check-back (r .refusal)),
+      c .run-reply .ensures ∙ ap (λ o. runNumbers (o .day) (asOption (o .check))) (said .0)
+          ∙ ap (runNumbers (r .state .day)) (check-back (r .refusal)),
       said .1,
     )
 
