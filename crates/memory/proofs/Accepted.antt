@@ -32,16 +32,16 @@ use Rattle.unbounded.specs.declared.Task.the-variants as Tasks
 use Rattle.unbounded.specs.Registers.{ascending}
 use Rattle.unbounded.specs.Processes.{noProcess, zeroProcess, isIdle}
 use Rattle.unbounded.specs.Days.{figure3, mostReads, unsound, stepped}
-use Rattle.unbounded_tasks.specs.declared.Access.{Access}
+use Rattle.unbounded_accesses.specs.declared.Access.{Access}
 use Rattle.unbounded_tasks.specs.declared.Find.{Find}
-use Rattle.unbounded_tasks.specs.Accesses.{Admits, isReady, accessOf, callAccess, RoomFor}
+use Rattle.unbounded_accesses.specs.Accesses.{Admits, isReady, accessOf, callAccess, RoomFor}
 use Rattle.unbounded_finds.specs.Finds.{pageBy}
 use Rattle.unbounded_turns.specs.Steps.{begunBy, stateBy}
 use Rattle.unbounded_tasks.specs.Tasks.{taskFor, answerBy}
-use Rattle.unbounded_tasks.specs.Surveys.{surveyOf, surveyedBy}
+use Rattle.unbounded_surveys.specs.Surveys.{surveyOf, surveyedBy}
 use Rattle.unbounded_turns.proofs.Steps.{access-count, Accessed, a-read, a-write, turn-is-steps}
 use Rattle.unbounded.proofs.Limits.{busy-owes, sound-due}
-use Rattle.unbounded_tasks.proofs.Looks.{surveyed-table, sound-has-room}
+use Rattle.unbounded_surveys.proofs.Looks.{surveyed-table, sound-has-room}
 use Rattle.memory.specs.Tables.{stateOf, outcomeOf, refusalIn, acceptedIn}
 use Rattle.memory.specs.Turning.{TurnAt, readAt, foundAt}
 

@@ -13,8 +13,8 @@ use Rattle.unbounded.proofs.Register as R
 use Rattle.unbounded.proofs.Register.Laws as R′
 use Rattle.unbounded.proofs.Task as K
 use Rattle.unbounded.proofs.Task.Laws as K′
-use Rattle.unbounded_tasks.proofs.Access as G
-use Rattle.unbounded_tasks.proofs.Access.Laws as G′
+use Rattle.unbounded_accesses.proofs.Access as G
+use Rattle.unbounded_accesses.proofs.Access.Laws as G′
 use Rattle.unbounded_tasks.proofs.Find as F
 use Rattle.unbounded_tasks.proofs.Find.Laws as F′
 use Rattle.admission.proofs.Survey as S

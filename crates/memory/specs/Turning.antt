@@ -8,9 +8,9 @@ use Rattle.unbounded.specs.declared.Register.{Register}
 use Rattle.unbounded.specs.declared.Process.{Process}
 use Rattle.unbounded.specs.declared.Task.{Task}
 use Rattle.unbounded.specs.Processes.{noProcess, turnsOf}
-use Rattle.unbounded_tasks.specs.declared.Access.{Access}
+use Rattle.unbounded_accesses.specs.declared.Access.{Access}
 use Rattle.unbounded_tasks.specs.declared.Find.{Find}
-use Rattle.unbounded_tasks.specs.Accesses.{Admits, Sound, accessOf, registerIn}
+use Rattle.unbounded_accesses.specs.Accesses.{Admits, Sound, accessOf, registerIn}
 use Rattle.unbounded_finds.specs.Finds.{findOf}
 
 -- an access within its double collect, a search that passed at most eight processes, and a record with room for one write and one

@@ -4,10 +4,10 @@ use admission::Survey;
 use unbounded::Process;
 use unbounded::Register;
 use unbounded::Task;
+use unbounded_accesses::Access;
 use unbounded_finds::finds;
-use unbounded_tasks::Access;
+use unbounded_surveys::surveys;
 use unbounded_tasks::Find;
-use unbounded_tasks::surveys;
 use unbounded_tasks::tasks;
 use unbounded_turns::records;
 ghost use mathlib.Core.Path.{_≡_};
@@ -15,10 +15,10 @@ ghost use mathlib.Core.List.{map, foldl};
 ghost use Prim.Native.Nat.{_<_};
 ghost use lib.ListN.{length, getD, set};
 ghost use Rattle.unbounded.specs.Processes.{noProcess, zeroProcess, isIdle};
-ghost use Rattle.unbounded_tasks.specs.Accesses.{Sound};
+ghost use Rattle.unbounded_accesses.specs.Accesses.{Sound};
 ghost use Rattle.unbounded_finds.specs.Finds.{findOf};
 ghost use Rattle.unbounded_turns.specs.Steps.{begunBy, stateBy};
-ghost use Rattle.unbounded_tasks.specs.Surveys.{surveyedBy};
+ghost use Rattle.unbounded_surveys.specs.Surveys.{surveyedBy};
 ghost use Rattle.memory.specs.Turning.{Turning};
 
 // What a look at every record finds, from what was found before.

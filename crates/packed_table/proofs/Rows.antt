@@ -29,10 +29,10 @@ use Rattle.unbounded.specs.declared.Task.the-variants as Tasks
 use Rattle.unbounded.specs.Registers.{zeroRegister}
 use Rattle.unbounded.specs.Processes.{noProcess, zeroProcess}
 use Rattle.unbounded_tasks.specs.declared.Find.{Find}
-use Rattle.unbounded_tasks.specs.Accesses.{isReady}
+use Rattle.unbounded_accesses.specs.Accesses.{isReady}
 use Rattle.unbounded_finds.specs.Finds.{nothingFound}
 use Rattle.unbounded_tasks.specs.Tasks.{answerBy}
-use Rattle.unbounded_tasks.specs.Surveys.{surveyOf, surveyedBy}
+use Rattle.unbounded_surveys.specs.Surveys.{surveyOf, surveyedBy}
 use Rattle.memory.specs.Tables.{stateOf, refusalIn, acceptedIn}
 use Rattle.memory.specs.Turning.{TurnAt, foundAt}
 use Rattle.memory.proofs.Accepted.{write-leaves, read-leaves}

@@ -7,9 +7,9 @@ use Rattle.unbounded.specs.declared.Process.{Process}
 use Rattle.unbounded.specs.declared.Task.{Task}
 use Rattle.unbounded.specs.declared.Task.the-variants.{Idle, Scan, Update, Ready}
 use Rattle.unbounded.specs.Processes.{begin}
-use Rattle.unbounded_tasks.specs.declared.Access.{Access}
+use Rattle.unbounded_accesses.specs.declared.Access.{Access}
 use Rattle.unbounded_tasks.specs.declared.Find.{Find}
-use Rattle.unbounded_tasks.specs.Accesses.{isReady}
+use Rattle.unbounded_accesses.specs.Accesses.{isReady}
 use Rattle.unbounded_tasks.specs.Tasks.{endsBy}
 use Rattle.unbounded_turns.specs.Steps.{begunBy, writtenBy, stateBy}
 use Rattle.unbounded_turns.proofs.Parts.{withRegister}

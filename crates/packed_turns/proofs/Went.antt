@@ -15,8 +15,8 @@ use Rattle.unbounded.specs.declared.Task.the-variants.{Idle, Scan, Update, Read
 use Rattle.unbounded.specs.Registers.{readInto}
 use Rattle.unbounded.specs.Turns.{placeAt, firstAfter, secondAfter, endAfter, decision}
 use Rattle.unbounded.proofs.Reading.{place-below}
-use Rattle.unbounded_tasks.specs.declared.Access.{Access}
-use Rattle.unbounded_tasks.specs.Accesses.{Sound, isReady}
+use Rattle.unbounded_accesses.specs.declared.Access.{Access}
+use Rattle.unbounded_accesses.specs.Accesses.{Sound, isReady}
 use Rattle.unbounded_tasks.specs.Tasks.{taskBy}
 use Rattle.unbounded_finds.specs.Finds.{nothingFound, findOf}
 use Rattle.unbounded_turns.specs.Steps.{withTask, readBy, stateBy}

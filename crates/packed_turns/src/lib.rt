@@ -2,9 +2,9 @@
 // marks; a read that ends its double collect unpacks the record. Crate `unbounded_turns` has the same turns on a record by value.
 use unbounded::Register;
 use unbounded::Task;
+use unbounded_accesses::Access;
 use unbounded_finds::collects;
 use unbounded_finds::finds;
-use unbounded_tasks::Access;
 use unbounded_tasks::Find;
 use unbounded_tasks::tasks;
 use unbounded_turns::records;
@@ -14,7 +14,7 @@ ghost use Prim.Native.Nat.{_+_, _*_, _<_};
 ghost use lib.Dec.{T};
 ghost use Rattle.unbounded.specs.Processes.{turnsOf};
 ghost use Rattle.unbounded.specs.Registers.{zeroRegister};
-ghost use Rattle.unbounded_tasks.specs.Accesses.{Sound, isReady};
+ghost use Rattle.unbounded_accesses.specs.Accesses.{Sound, isReady};
 ghost use Rattle.unbounded_finds.specs.Finds.{nothingFound, findOf};
 ghost use Rattle.unbounded_turns.specs.Steps.{begunBy, stateBy};
 ghost use Rattle.packed.specs.Packing.{packedOver, unpackRecord, unpackRegister};

@@ -12,7 +12,7 @@ use Rattle.unbounded.specs.declared.Register.{Register}
 use Rattle.unbounded.specs.declared.Process.{Process}
 use Rattle.unbounded.specs.Registers.{ascending, differs}
 use Rattle.unbounded.specs.Turns.{firstAfter, secondAfter, endAfter, decision}
-use Rattle.unbounded_tasks.specs.declared.Access.{Access}
+use Rattle.unbounded_accesses.specs.declared.Access.{Access}
 use Rattle.unbounded_finds.specs.Finds.{decisionFind, findOf}
 
 -- a search for a lender passes at most the n processes

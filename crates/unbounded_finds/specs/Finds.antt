@@ -12,7 +12,7 @@ use Rattle.unbounded.specs.declared.Task.{Task}
 use Rattle.unbounded.specs.declared.Task.the-variants.{Idle, Scan, Update, Ready}
 use Rattle.unbounded.specs.Registers.{ascending, collectedAt, pageOf}
 use Rattle.unbounded.specs.Turns.{firstAfter, secondAfter, endAfter, decision}
-use Rattle.unbounded_tasks.specs.declared.Access.{Access}
+use Rattle.unbounded_accesses.specs.declared.Access.{Access}
 use Rattle.unbounded_tasks.specs.declared.Find.{Find}
 
 -- nothing found, after a search for a lender that passed k processes

@@ -3,7 +3,7 @@ use crate::collects;
 use unbounded::Process;
 use unbounded::Register;
 use unbounded::Task;
-use unbounded_tasks::Access;
+use unbounded_accesses::Access;
 use unbounded_tasks::Find;
 use words::lay_words;
 ghost use mathlib.Core.Path.{_≡_};
@@ -12,7 +12,7 @@ ghost use Prim.Native.Nat.{_≤_};
 ghost use Rattle.snapshot.specs.Verdict.{verdict};
 ghost use Rattle.snapshot.specs.Marks.{lends};
 ghost use Rattle.unbounded.specs.Registers.{ascending, differs};
-ghost use Rattle.unbounded_tasks.specs.Accesses.{Sound, RoomFor};
+ghost use Rattle.unbounded_accesses.specs.Accesses.{Sound, RoomFor};
 ghost use Rattle.unbounded_finds.specs.Finds.{nothingFound, decisionFind, findOf, pageBy};
 
 // Nothing found; the search for a lender passed k processes.

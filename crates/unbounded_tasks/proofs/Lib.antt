@@ -1,2 +1,1 @@
--- That a look at every record finds what refusals 11 and 5 ask.
-pub mod Looks
+-- Nothing is shared by the proofs of this crate.

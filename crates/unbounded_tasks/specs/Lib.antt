@@ -1,4 +1,2 @@
--- What the functions on a task compute. Read in this order.
-pub mod Accesses
+-- What the functions on a task compute.
 pub mod Tasks
-pub mod Surveys

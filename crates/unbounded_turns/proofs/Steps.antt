@@ -25,9 +25,9 @@ use Rattle.unbounded.specs.Turns.{reads, position, firstAfter, secondAfter, end
 use Rattle.unbounded.specs.Turns.{foundBy, scanTurn, updateTurn, written, turnedBy, turned}
 use Rattle.unbounded.specs.Days.{figure3}
 use Rattle.unbounded.proofs.Places.{page-of-long}
-use Rattle.unbounded_tasks.specs.declared.Access.{Access}
+use Rattle.unbounded_accesses.specs.declared.Access.{Access}
 use Rattle.unbounded_tasks.specs.declared.Find.{Find}
-use Rattle.unbounded_tasks.specs.Accesses.{isReady, accessOf, registerIn}
+use Rattle.unbounded_accesses.specs.Accesses.{isReady, accessOf, registerIn}
 use Rattle.unbounded_finds.specs.Finds.{decisionFind, findOf, pageBy}
 use Rattle.unbounded_turns.specs.Steps.{withTask, readBy, writtenBy, stateBy, begunBy}
 use Rattle.unbounded_tasks.specs.Tasks.{keepsBy, endsBy, taskBy, answerBy}

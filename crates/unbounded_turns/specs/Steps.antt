@@ -12,7 +12,7 @@ use Rattle.unbounded.specs.declared.Task.the-variants.{Idle, Scan, Update, Read
 use Rattle.unbounded.specs.Registers.{ascending, differs, laid}
 use Rattle.unbounded.specs.Processes.{emptied, begin}
 use Rattle.unbounded.specs.Turns.{firstAfter, secondAfter, endAfter}
-use Rattle.unbounded_tasks.specs.declared.Access.{Access}
+use Rattle.unbounded_accesses.specs.declared.Access.{Access}
 use Rattle.unbounded_tasks.specs.declared.Find.{Find}
 use Rattle.unbounded_tasks.specs.Tasks.{keepsBy, endsBy, taskBy}
 

@@ -3,8 +3,8 @@
 use unbounded::Process;
 use unbounded::Register;
 use unbounded::Task;
+use unbounded_accesses::Access;
 use unbounded_finds::collects;
-use unbounded_tasks::Access;
 use unbounded_tasks::Find;
 use unbounded_tasks::tasks;
 use words::over_words;
@@ -12,7 +12,7 @@ ghost use mathlib.Core.Path.{_≡_};
 ghost use Prim.Native.Nat.{_≤_, _<_};
 ghost use Rattle.unbounded.specs.Processes.{isIdle, zeroProcess};
 ghost use Rattle.unbounded.specs.Turns.{endAfter};
-ghost use Rattle.unbounded_tasks.specs.Accesses.{Sound};
+ghost use Rattle.unbounded_accesses.specs.Accesses.{Sound};
 ghost use Rattle.unbounded_turns.specs.Steps.{begunBy, readBy, writtenBy, writtenOver};
 
 // A record in which every number is 0, and which is idle.

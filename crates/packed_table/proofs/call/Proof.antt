@@ -7,7 +7,7 @@ use lib.ListN.{length, getD, set}
 use Rattle.snapshot.specs.Requests.{numberIn}
 use Rattle.unbounded.specs.declared.Process.{Process}
 use Rattle.unbounded.specs.Processes.{noProcess}
-use Rattle.unbounded_tasks.specs.Accesses.{callAccess}
+use Rattle.unbounded_accesses.specs.Accesses.{callAccess}
 use Rattle.unbounded_tasks.specs.Tasks.{taskFor}
 use Rattle.unbounded_turns.specs.Steps.{begunBy}
 use Rattle.memory.proofs.Accepted.{call-item, admits, admits-day, admits-inside, called-leaves}

@@ -1,7 +1,7 @@
 -- `packed_table::looked_at` meets its contract.
 use mathlib.Core.Path.{ap, _∙_}
-use Rattle.unbounded_tasks.specs.Surveys.{registerSeen, taskSeen, surveyedBy}
-use Rattle.unbounded_tasks.proofs.Looks.{task-first}
+use Rattle.unbounded_surveys.specs.Surveys.{registerSeen, taskSeen, surveyedBy}
+use Rattle.unbounded_surveys.proofs.Looks.{task-first}
 use lib.ListN.{drop}
 use Rattle.packed.specs.Packing.{unpackTask, unpackRecord}
 use borrow.Author.Needs.{needs}

@@ -8,7 +8,7 @@ use Rattle.snapshot.specs.Requests.{numberIn}
 use Rattle.admission.specs.Checks.{asOption, lastRefusal}
 use Rattle.admission.proofs.Checked.{passed-none}
 use Rattle.unbounded.specs.Processes.{isIdle}
-use Rattle.unbounded_tasks.specs.Surveys.{surveyedBy}
+use Rattle.unbounded_surveys.specs.Surveys.{surveyedBy}
 use Rattle.memory.proofs.Accepted.{plan-refuses, plan-number, plan-inside, plan-last}
 use Rattle.packed.specs.Packing.{unpackTask}
 use Rattle.packed_table.specs.Tables.{unpackedAll}

@@ -5,7 +5,7 @@ use mathlib.Core.Path.{_≡_, sym, ap, _∙_, subst}
 use lib.ListN.{length, getD, set}
 use Rattle.admission.specs.Outcomes.{acceptedOutcome}
 use Rattle.unbounded.specs.Processes.{noProcess}
-use Rattle.unbounded_tasks.specs.Accesses.{RoomFor, readsIn}
+use Rattle.unbounded_accesses.specs.Accesses.{RoomFor, readsIn}
 use Rattle.unbounded_tasks.specs.Tasks.{answerBy}
 use Rattle.unbounded_finds.specs.Finds.{findOf, pageBy}
 use Rattle.unbounded_turns.specs.Steps.{stateBy}

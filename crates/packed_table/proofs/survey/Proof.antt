@@ -6,7 +6,7 @@ use mathlib.Core.List.{foldl}
 use lib.ListN.{length, drop}
 use lib.Seq.{drop-length}
 use borrow.Author.Needs.{needs}
-use Rattle.unbounded_tasks.specs.Surveys.{surveyedBy}
+use Rattle.unbounded_surveys.specs.Surveys.{surveyedBy}
 use Rattle.packed_table.specs.Tables.{unpackedAll}
 use Rattle.packed_table.proofs.Rows.{looked-more}
 use Rattle.packed_table.proofs.survey.Statement.{statement}

@@ -9,7 +9,7 @@ use Rattle.admission.specs.Outcomes.{acceptedOutcome}
 use Rattle.unbounded.specs.declared.Process.{Process}
 use Rattle.unbounded.specs.Registers.{zeroRegister}
 use Rattle.unbounded.specs.Processes.{noProcess}
-use Rattle.unbounded_tasks.specs.Accesses.{RoomFor, isReady, accessOf}
+use Rattle.unbounded_accesses.specs.Accesses.{RoomFor, isReady, accessOf}
 use Rattle.unbounded_tasks.specs.Tasks.{answerBy}
 use Rattle.unbounded_finds.specs.Finds.{nothingFound, pageBy}
 use Rattle.unbounded_turns.specs.Steps.{stateBy}

@@ -7,7 +7,7 @@ use Rattle.walks.proofs.Walking.{ !, Param, value, lent, own, a-usize, a-unit, 
 use Rattle.walks.proofs.Walking.{finds-element, lends-element}
 use Rattle.walks.proofs.Walking.{calls-element, unit-stored, ends-lent, callee, given, unit-said, id⊢}
 use Rattle.unbounded.specs.Processes.{noProcess}
-use Rattle.unbounded_tasks.specs.Accesses.{Sound}
+use Rattle.unbounded_accesses.specs.Accesses.{Sound}
 use Rattle.unbounded_turns.specs.Steps.{begunBy}
 use Rattle.memory.proofs.Types.{a-process, a-task, an-access}
 use Rattle.memory.proofs.elements.begin_own as begin-own

@@ -3,7 +3,7 @@ use mathlib.Core.Path.{refl}
 use mathlib.Core.List.{List, [], _∷_}
 use Rattle.walks.proofs.Walking.{ !, Param, value, own, a-unit, thin, _▹_, begins-own, reads-whole, gets, stores-whole}
 use Rattle.walks.proofs.Walking.{stores-field, unit-stored, ends-own, callee, given, id⊢}
-use Rattle.unbounded_tasks.specs.Accesses.{Sound}
+use Rattle.unbounded_accesses.specs.Accesses.{Sound}
 use Rattle.unbounded_turns.specs.Steps.{begunBy}
 use Rattle.unbounded_turns.proofs.Steps.{begun-then-task}
 use Rattle.memory.proofs.Types.{a-process, a-task, an-access, task-field}

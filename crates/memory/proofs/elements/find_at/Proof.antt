@@ -6,7 +6,7 @@ use lib.ListN.{length, getD}
 use Rattle.walks.proofs.Walking.{ !, Param, value, shared, a-usize, thin, _▹_, begins-shared, offset-fits, finds-element}
 use Rattle.walks.proofs.Walking.{copies-element, gets, ends-shared, callee, given, first-said, id⊢}
 use Rattle.unbounded.specs.Processes.{noProcess}
-use Rattle.unbounded_tasks.specs.Accesses.{Sound}
+use Rattle.unbounded_accesses.specs.Accesses.{Sound}
 use Rattle.unbounded_finds.specs.Finds.{findOf}
 use Rattle.memory.proofs.Types.{a-process, a-register, an-access, a-find}
 use Rattle.unbounded_finds.proofs.finds.find_page as finds

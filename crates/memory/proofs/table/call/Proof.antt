@@ -10,7 +10,7 @@ use Rattle.walks.proofs.Walking.{calls-lent, ends-lent, callee, asks-nothing, g
 use Rattle.snapshot.specs.Requests.{numberIn}
 use Rattle.snapshot.specs.declared.Answer.the-variants.{Called}
 use Rattle.unbounded.specs.Processes.{noProcess}
-use Rattle.unbounded_tasks.specs.Accesses.{Sound, callAccess}
+use Rattle.unbounded_accesses.specs.Accesses.{Sound, callAccess}
 use Rattle.unbounded_turns.specs.Steps.{begunBy}
 use Rattle.unbounded_tasks.specs.Tasks.{taskFor}
 use Rattle.requests.specs.Requests.{itemOf, isCall}
@@ -18,8 +18,8 @@ use Rattle.admission.specs.Outcomes.{acceptedOutcome}
 use Rattle.memory.specs.Tables.{stateOf, refusalIn}
 use Rattle.memory.proofs.Types.{a-process, a-task, an-access, a-day, a-request, an-outcome}
 use Rattle.memory.proofs.Accepted.{call-item, admits, admits-day, admits-inside, called-leaves}
-use Rattle.unbounded_tasks.proofs.accesses.call_access as goes-by
-use Rattle.unbounded_tasks.proofs.accesses.call_access.Met as goes-by-met
+use Rattle.unbounded_accesses.proofs.accesses.call_access as goes-by
+use Rattle.unbounded_accesses.proofs.accesses.call_access.Met as goes-by-met
 use Rattle.requests.proofs.index_in as index
 use Rattle.requests.proofs.index_in.Met as index-met
 use Rattle.unbounded_tasks.proofs.tasks.task_for as task
@@ -40,7 +40,7 @@ pub call-spec : {M : Type 1} → stated.statement M
 unfolding code.routine
 call-spec 𝓤 H 𝓜 𝓖 𝓡 =
     let c = f.clauses 𝓤 H (𝓖 .A) (𝓜 .mem) (𝓡 .run) in
-    let goes-by-is = callee 𝓤 H 𝓜 𝓖 𝓡 code.env (value a-day ∷ []) an-access code.calls-unbounded-tasks·accesses·call-access
+    let goes-by-is = callee 𝓤 H 𝓜 𝓖 𝓡 code.env (value a-day ∷ []) an-access code.calls-unbounded-accesses·accesses·call-access
     (goes-by.clauses 𝓤 H (𝓖 .A) (𝓜 .mem) (𝓡 .run)) (λ κs a. tt) (goes-by-met.met 𝓤 H 𝓜 𝓖 𝓡) in
     let index-is = callee 𝓤 H 𝓜 𝓖 𝓡 code.env (value a-request ∷ []) a-usize code.calls-requests·index-in
     (index.clauses 𝓤 H (𝓖 .A) (𝓜 .mem) (𝓡 .run)) (λ κs a. tt) (index-met.met 𝓤 H 𝓜 𝓖 𝓡) in

@@ -9,14 +9,14 @@ use Rattle.walks.proofs.Walking.{ !, Param, value, shared, a-usize, a-bool, thi
 use Rattle.walks.proofs.Walking.{calls-passed-is, counts, copies, if-leaves, ends-shared, callee, asks-nothing, given, id⊢}
 use Rattle.snapshot.specs.Requests.{numberIn}
 use Rattle.unbounded.specs.Processes.{noProcess, isIdle}
-use Rattle.unbounded_tasks.specs.Surveys.{surveyOf, surveyedBy}
+use Rattle.unbounded_surveys.specs.Surveys.{surveyOf, surveyedBy}
 use Rattle.requests.specs.Requests.{isOpening}
 use Rattle.admission.specs.Checks.{asOption, isRefusal, firstRefusal, lastRefusal}
 use Rattle.admission.proofs.Checked.{passed-none}
 use Rattle.memory.proofs.Types.{a-process, a-survey, a-check, a-day, a-request}
 use Rattle.memory.proofs.Accepted.{plan-refuses, plan-number, plan-inside, plan-last}
-use Rattle.unbounded_tasks.proofs.surveys.survey_of as limits
-use Rattle.unbounded_tasks.proofs.surveys.survey_of.Met as limits-met
+use Rattle.unbounded_surveys.proofs.surveys.survey_of as limits
+use Rattle.unbounded_surveys.proofs.surveys.survey_of.Met as limits-met
 use Rattle.memory.proofs.elements.survey as survey
 use Rattle.memory.proofs.elements.survey.Met as survey-met
 use Rattle.admission.proofs.checks.first_check as first
@@ -41,7 +41,7 @@ pub plan-spec : {M : Type 1} → stated.statement M
 unfolding code.routine
 plan-spec 𝓤 H 𝓜 𝓖 𝓡 =
     let c = f.clauses 𝓤 H (𝓖 .A) (𝓜 .mem) (𝓡 .run) in
-    let limits-is = callee 𝓤 H 𝓜 𝓖 𝓡 code.env (value a-day ∷ []) a-survey code.calls-unbounded-tasks·surveys·survey-of
+    let limits-is = callee 𝓤 H 𝓜 𝓖 𝓡 code.env (value a-day ∷ []) a-survey code.calls-unbounded-surveys·surveys·survey-of
     (limits.clauses 𝓤 H (𝓖 .A) (𝓜 .mem) (𝓡 .run)) (λ κs a. tt) (limits-met.met 𝓤 H 𝓜 𝓖 𝓡) in
     let survey-is = callee 𝓤 H 𝓜 𝓖 𝓡 code.env (shared 0 tt a-process ∷ value a-survey ∷ []) a-survey
     code.calls-memory·elements·survey

@@ -8,7 +8,7 @@ use Rattle.walks.proofs.Walking.{ !, Param, value, shared, lent, a-usize, a-u32
 use Rattle.walks.proofs.Walking.{swaps, gets, gets-also}
 use Rattle.walks.proofs.Walking.{calls-shared-is, calls-lent, ends-two, callee, given, three-given, two-said, unit-said, id⊢}
 use Rattle.unbounded.specs.Processes.{noProcess, turnsOf}
-use Rattle.unbounded_tasks.specs.Accesses.{Sound, accessOf, readsIn, RoomFor}
+use Rattle.unbounded_accesses.specs.Accesses.{Sound, accessOf, readsIn, RoomFor}
 use Rattle.unbounded_finds.specs.Finds.{pageBy}
 use Rattle.unbounded_turns.specs.Steps.{stateBy}
 use Rattle.unbounded_tasks.specs.Tasks.{answerBy}
@@ -17,10 +17,10 @@ use Rattle.unbounded_turns.proofs.Steps.{access-count}
 use Rattle.admission.specs.Outcomes.{acceptedOutcome}
 use Rattle.memory.specs.Turning.{TurnAt, readAt, foundAt}
 use Rattle.memory.proofs.Types.{a-process, a-register, a-task, an-access, a-find, a-day, an-answer, an-outcome}
-use Rattle.unbounded_tasks.proofs.accesses.access_of as access
-use Rattle.unbounded_tasks.proofs.accesses.access_of.Met as access-met
-use Rattle.unbounded_tasks.proofs.accesses.place_of as place
-use Rattle.unbounded_tasks.proofs.accesses.place_of.Met as place-met
+use Rattle.unbounded_accesses.proofs.accesses.access_of as access
+use Rattle.unbounded_accesses.proofs.accesses.access_of.Met as access-met
+use Rattle.unbounded_accesses.proofs.accesses.place_of as place
+use Rattle.unbounded_accesses.proofs.accesses.place_of.Met as place-met
 use Rattle.memory.proofs.elements.register_at as register
 use Rattle.memory.proofs.elements.register_at.Met as register-met
 use Rattle.memory.proofs.elements.find_at as find
@@ -46,9 +46,9 @@ unfolding code.routine
 read-turn-spec 𝓤 H 𝓜 𝓖 𝓡 =
     let c = f.clauses 𝓤 H (𝓖 .A) (𝓜 .mem) (𝓡 .run) in
     let access-is = callee 𝓤 H 𝓜 𝓖 𝓡 code.env (value a-day ∷ value a-task ∷ []) an-access
-    code.calls-unbounded-tasks·accesses·access-of
+    code.calls-unbounded-accesses·accesses·access-of
     (access.clauses 𝓤 H (𝓖 .A) (𝓜 .mem) (𝓡 .run)) (λ κs a. tt) (access-met.met 𝓤 H 𝓜 𝓖 𝓡) in
-    let place-is = callee 𝓤 H 𝓜 𝓖 𝓡 code.env (value an-access ∷ []) a-usize code.calls-unbounded-tasks·accesses·place-of
+    let place-is = callee 𝓤 H 𝓜 𝓖 𝓡 code.env (value an-access ∷ []) a-usize code.calls-unbounded-accesses·accesses·place-of
     (place.clauses 𝓤 H (𝓖 .A) (𝓜 .mem) (𝓡 .run)) (λ κs a. tt) (place-met.met 𝓤 H 𝓜 𝓖 𝓡) in
     let register-is = callee 𝓤 H 𝓜 𝓖 𝓡 code.env (shared 0 tt a-process ∷ value a-usize ∷ []) a-register
     code.calls-memory·elements·register-at

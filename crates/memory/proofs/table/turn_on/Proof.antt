@@ -14,7 +14,7 @@ use Rattle.walks.proofs.Walking.{three-said, id⊢}
 use Rattle.snapshot.specs.Requests.{numberIn}
 use Rattle.unbounded.specs.Registers.{zeroRegister}
 use Rattle.unbounded.specs.Processes.{noProcess}
-use Rattle.unbounded_tasks.specs.Accesses.{isReady, accessOf}
+use Rattle.unbounded_accesses.specs.Accesses.{isReady, accessOf}
 use Rattle.unbounded_finds.specs.Finds.{nothingFound, pageBy}
 use Rattle.unbounded_turns.specs.Steps.{stateBy}
 use Rattle.unbounded_tasks.specs.Tasks.{answerBy}
@@ -28,8 +28,8 @@ use Rattle.requests.proofs.index_in as index
 use Rattle.requests.proofs.index_in.Met as index-met
 use Rattle.memory.proofs.elements.task_at as task
 use Rattle.memory.proofs.elements.task_at.Met as task-met
-use Rattle.unbounded_tasks.proofs.accesses.is_ready as is-ready
-use Rattle.unbounded_tasks.proofs.accesses.is_ready.Met as is-ready-met
+use Rattle.unbounded_accesses.proofs.accesses.is_ready as is-ready
+use Rattle.unbounded_accesses.proofs.accesses.is_ready.Met as is-ready-met
 use Rattle.memory.proofs.table.write_turn as write
 use Rattle.memory.proofs.table.write_turn.Met as write-met
 use Rattle.memory.proofs.table.read_turn as read
@@ -50,7 +50,7 @@ turn-on-spec 𝓤 H 𝓜 𝓖 𝓡 =
     (index.clauses 𝓤 H (𝓖 .A) (𝓜 .mem) (𝓡 .run)) (λ κs a. tt) (index-met.met 𝓤 H 𝓜 𝓖 𝓡) in
     let task-is = callee 𝓤 H 𝓜 𝓖 𝓡 code.env (shared 0 tt a-process ∷ value a-usize ∷ []) a-task code.calls-memory·elements·task-at
     (task.clauses 𝓤 H (𝓖 .A) (𝓜 .mem) (𝓡 .run)) (λ κs a. tt) (task-met.met 𝓤 H 𝓜 𝓖 𝓡) in
-    let is-ready-is = callee 𝓤 H 𝓜 𝓖 𝓡 code.env (value a-task ∷ []) a-bool code.calls-unbounded-tasks·accesses·is-ready
+    let is-ready-is = callee 𝓤 H 𝓜 𝓖 𝓡 code.env (value a-task ∷ []) a-bool code.calls-unbounded-accesses·accesses·is-ready
     (is-ready.clauses 𝓤 H (𝓖 .A) (𝓜 .mem) (𝓡 .run)) (λ κs a. tt) (is-ready-met.met 𝓤 H 𝓜 𝓖 𝓡) in
     let write-is = callee 𝓤 H 𝓜 𝓖 𝓡 code.env (value a-day ∷ lent 0 tt a-process ∷ value a-usize ∷ value a-task ∷ []) an-outcome
     code.calls-memory·table·write-turn

@@ -8,15 +8,15 @@ use Rattle.walks.proofs.Walking.{ !, Param, value, lent, a-usize, a-unit, thin,
 use Rattle.walks.proofs.Walking.{calls-lent, ends-lent, callee, asks-nothing, given, two-given, two-said, unit-said, id⊢}
 use Rattle.unbounded.specs.Registers.{zeroRegister}
 use Rattle.unbounded.specs.Processes.{noProcess, turnsOf}
-use Rattle.unbounded_tasks.specs.Accesses.{Sound, accessOf}
+use Rattle.unbounded_accesses.specs.Accesses.{Sound, accessOf}
 use Rattle.unbounded_finds.specs.Finds.{nothingFound}
 use Rattle.unbounded_turns.specs.Steps.{stateBy}
 use Rattle.unbounded_tasks.specs.Tasks.{answerBy}
 use Rattle.admission.specs.Outcomes.{acceptedOutcome}
 use Rattle.memory.specs.Turning.{TurnAt}
 use Rattle.memory.proofs.Types.{a-process, a-register, a-task, an-access, a-find, a-day, an-answer, an-outcome}
-use Rattle.unbounded_tasks.proofs.accesses.access_of as access
-use Rattle.unbounded_tasks.proofs.accesses.access_of.Met as access-met
+use Rattle.unbounded_accesses.proofs.accesses.access_of as access
+use Rattle.unbounded_accesses.proofs.accesses.access_of.Met as access-met
 use Rattle.unbounded_finds.proofs.finds.nothing_found as nothing
 use Rattle.unbounded_finds.proofs.finds.nothing_found.Met as nothing-met
 use Rattle.unbounded_finds.proofs.collects.no_register as no-register
@@ -40,7 +40,7 @@ unfolding code.routine
 write-turn-spec 𝓤 H 𝓜 𝓖 𝓡 =
     let c = f.clauses 𝓤 H (𝓖 .A) (𝓜 .mem) (𝓡 .run) in
     let access-is = callee 𝓤 H 𝓜 𝓖 𝓡 code.env (value a-day ∷ value a-task ∷ []) an-access
-    code.calls-unbounded-tasks·accesses·access-of
+    code.calls-unbounded-accesses·accesses·access-of
     (access.clauses 𝓤 H (𝓖 .A) (𝓜 .mem) (𝓡 .run)) (λ κs a. tt) (access-met.met 𝓤 H 𝓜 𝓖 𝓡) in
     let nothing-is = callee 𝓤 H 𝓜 𝓖 𝓡 code.env [] a-find code.calls-unbounded-finds·finds·nothing-found
     (nothing.clauses 𝓤 H (𝓖 .A) (𝓜 .mem) (𝓡 .run)) (λ κs a. tt) (nothing-met.met 𝓤 H 𝓜 𝓖 𝓡) in

@@ -13,9 +13,9 @@ use Rattle.unbounded.specs.declared.Process.{Process}
 use Rattle.unbounded.specs.Registers.{noRegister, ascending, laid, readInto, differs}
 use Rattle.unbounded.specs.Turns.{firstAfter, secondAfter, endAfter}
 use Rattle.unbounded.proofs.Reading.{first-waits, second-reads, end-waits, decision-waits, decision-falls}
-use Rattle.unbounded_tasks.specs.declared.Access.{Access}
+use Rattle.unbounded_accesses.specs.declared.Access.{Access}
 use Rattle.unbounded_tasks.specs.declared.Find.{Find}
-use Rattle.unbounded_tasks.specs.Accesses.{Sound}
+use Rattle.unbounded_accesses.specs.Accesses.{Sound}
 use Rattle.unbounded_finds.specs.Finds.{nothingFound, decisionFind, findOf}
 use Rattle.unbounded_finds.proofs.Passed.{find-passed}
 use borrow.Author.Needs.{needs}

@@ -14,7 +14,7 @@ use Rattle.unbounded.specs.declared.Process.{Process}
 use Rattle.unbounded.specs.Registers.{noRegister, ascending, laid, readInto, differs}
 use Rattle.unbounded.specs.Turns.{firstAfter, secondAfter, endAfter}
 use Rattle.unbounded.proofs.Reading.{first-reads, first-waits, second-reads, second-waits}
-use Rattle.unbounded_tasks.specs.declared.Access.{Access}
+use Rattle.unbounded_accesses.specs.declared.Access.{Access}
 use Rattle.unbounded_tasks.specs.declared.Find.{Find}
 use Rattle.unbounded_turns.specs.Steps.{readBy}
 use Rattle.unbounded_tasks.specs.Tasks.{keepsBy}

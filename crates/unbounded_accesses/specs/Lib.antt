@@ -1,0 +1,2 @@
+-- What a turn reads.
+pub mod Accesses

@@ -1,0 +1,2 @@
+-- What a look at the records of a table finds.
+pub mod Surveys

@@ -1,0 +1,76 @@
+// Whether a record can have arisen, and what it owes: what a look at every record of a table finds, one record at a time.
+use admission::Survey;
+use admission::checks;
+use snapshot::Day;
+use unbounded::Process;
+use unbounded::Task;
+use unbounded::most_reads;
+ghost use mathlib.Core.Path.{_≡_};
+ghost use mathlib.Core.Bool.{_||_};
+ghost use lib.Dec.{ltb};
+ghost use Rattle.unbounded_surveys.specs.Surveys.{surveyOf, registerSeen, taskSeen, surveyedBy};
+
+// What is found before any record is looked at.
+pub fn survey_of(day: Day) -> Survey
+    ensures { λ s. ⌜ s ≡ surveyOf day ⌝ }
+{
+    Survey {
+        scan_most: most_reads(day.count),
+        update_more: 1,
+        event: day.event,
+        end: day.event,
+        bad: false,
+    }
+}
+
+// What is found once p is looked at too: its task, then its register.
+pub fn surveyed(s: Survey, p: Process) -> Survey
+    ensures { λ t. ⌜ t ≡ surveyedBy s p ⌝ }
+{
+    let k = p.task;
+    register_seen(task_seen(s, k), p.register.seq, p.register.at)
+}
+
+// Once a register with this seq and at is looked at.
+pub fn register_seen(s: Survey, seq: u32, at: u32) -> Survey
+    ensures { λ t. ⌜ t ≡ registerSeen s seq at ⌝ }
+{
+    Survey {
+        scan_most: s.scan_most,
+        update_more: s.update_more,
+        event: s.event,
+        end: s.end,
+        bad: bad_register(s, seq, at),
+    }
+}
+
+// Whether something before was bad, or a register cannot have arisen.
+fn bad_register(s: Survey, seq: u32, at: u32) -> bool
+    ensures { λ b. ⌜ b ≡ (s .bad || (ltb (s .event) seq || ltb (s .event) at)) ⌝ }
+{
+    if s.bad {
+        return true;
+    }
+    if s.event < seq {
+        return true;
+    }
+    s.event < at
+}
+
+// Once a task is looked at. An update that is still being read owes its writing turn after its reads.
+pub fn task_seen(s: Survey, k: Task) -> Survey
+    ensures { λ t. ⌜ t ≡ taskSeen s k ⌝ }
+{
+    match k {
+        Task::Idle => s,
+        Task::Scan { turns } => checks::waits(s, s.scan_most as u32, 0, turns),
+        Task::Update { word: _, turns } => {
+            checks::waits(s, s.scan_most as u32, s.update_more as u32, turns)
+        },
+        Task::Ready {
+            word: _,
+            at: _,
+            turns,
+        } => checks::waits(s, s.scan_most as u32 + s.update_more as u32, 0, turns),
+    }
+}
