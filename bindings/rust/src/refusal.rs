@@ -38,8 +38,8 @@ pub enum Refusal {
     /// turns than any can need; or the calls under way can need more turns than the day has events
     /// left.
     CannotArise = 11,
-    /// 13: a run of turns is lent too few places for its answers or its pages.
-    /// [`Register::run`](crate::Register::run) always lends enough.
+    /// 13: a run of turns is lent too few places for its answers or its pages. Only
+    /// [`Register::run_into`](crate::Register::run_into) is refused with it.
     TableShort = 13,
 }
 

@@ -190,15 +190,64 @@ impl Register {
     pub fn run(&mut self, desks: &[u32]) -> Result<Vec<Result<Answer, Refusal>>, Refusal> {
         // What a day asks for that has a record for each desk; any other is refused before.
         let n = self.records.len().min(self.desks as usize);
-        let mut replies = vec![Reply::default(); desks.len()];
         let mut pages = vec![0; n * desks.len()];
+        let replies = self.replies(desks, desks.len(), &mut pages)?;
+        Ok((0..).zip(&replies).map(|(i, own)| answer(own, &pages[n * i..])).collect())
+    }
+
+    /// A run of turns with two lent tables: what each turn was answered is put in the first, in
+    /// order, and the words of a page that it answered in the second, which has as many words for
+    /// each turn as the day has desks. No other place of either changes, also where they are longer.
+    ///
+    /// ```
+    /// use nelvaquist::{Answer, Refusal, Register};
+    ///
+    /// let mut register = Register::new();
+    /// register.open(2)?;
+    /// register.page(1)?;
+    /// let mut answers = [Ok(Answer::Read); 4];
+    /// let mut pages = [9; 4 * 2];
+    /// register.run_into(&[1, 1, 1, 1], &mut answers, &mut pages)?;
+    /// assert!(matches!(answers[3], Ok(Answer::Page(_))));
+    /// assert_eq!(pages, [9, 9, 9, 9, 9, 9, 0, 0]);
+    /// # Ok::<(), Refusal>(())
+    /// ```
+    ///
+    /// # Errors
+    ///
+    /// Refused as [`run`](Self::run), and then with [`TableShort`](Refusal::TableShort) if the first
+    /// table has fewer places than there are turns, or the second too few words. Nothing is changed
+    /// then.
+    pub fn run_into(
+        &mut self,
+        desks: &[u32],
+        answers: &mut [Result<Answer, Refusal>],
+        pages: &mut [u32],
+    ) -> Result<(), Refusal> {
+        let n = self.desks as usize;
+        let replies = self.replies(desks, answers.len(), pages)?;
+        for (i, (place, own)) in answers.iter_mut().zip(&replies).enumerate() {
+            *place = answer(own, &pages[n * i..]);
+        }
+        Ok(())
+    }
+
+    /// Gives a run of turns, for whose answers there are so many places. It answers the reply to each.
+    fn replies(
+        &mut self,
+        desks: &[u32],
+        places: usize,
+        pages: &mut [u32],
+    ) -> Result<Vec<Reply>, Refusal> {
+        // Places past the turns stay as they are.
+        let mut replies = vec![Reply::default(); places.min(desks.len())];
         let day = (self.desks, self.event);
-        let reply = library::run(day, &mut self.records, desks, &mut replies, &mut pages);
+        let reply = library::run(day, &mut self.records, desks, &mut replies, pages);
         self.desks = reply.desks;
         self.event = reply.event;
         match reply.answer {
             0 => Err(refusal(&reply)),
-            6 => Ok((0..).zip(&replies).map(|(i, own)| answer(own, &pages[n * i..])).collect()),
+            6 => Ok(replies),
             number => other_version("answer", number),
         }
     }

@@ -46,6 +46,7 @@ fn no_table_is_lent() {
     panics(|| register.turn(1));
     panics(|| register.run(&[1, 1]));
     panics(|| register.run(&[]));
+    panics(|| register.run_into(&[1], &mut [], &mut []));
     panics(|| register.step(Request::Turn { desk: 1 }, &mut []));
     assert_eq!(register, before);
 }

@@ -4,14 +4,66 @@ use nelvaquist::{Answer, DayFile, Record, Refusal, Register, Request, Task};
 use std::fs;
 use std::path::Path;
 
-/// Gives a run, and looks whether its turns are answered alike and leave the same one by one.
+/// What lies in an answer table before a run: no turn is answered so.
+const BEFORE: Result<Answer, Refusal> = Err(Refusal::CutShort);
+
+/// What lies in a page table before a run.
+const WORD: u32 = 9;
+
+/// Gives a run, and looks whether its turns are answered alike and leave the same one by one, and with
+/// two lent tables.
 fn ran(register: &mut Register, desks: &[u32]) -> Vec<Result<Answer, Refusal>> {
-    let mut other = register.clone();
+    let before = register.clone();
     let answers = register.run(desks).unwrap();
+    let mut other = before.clone();
     let one_by_one: Vec<_> = desks.iter().map(|&desk| other.turn(desk)).collect();
     assert_eq!(answers, one_by_one);
     assert_eq!(*register, other);
+    for (more_places, more_words) in [(0, 0), (1, 0), (0, 1), (3, 17)] {
+        into_tables(before.clone(), desks, more_places, more_words, &answers, register);
+    }
+    if !desks.is_empty() {
+        too_short(&before, desks);
+    }
     answers
+}
+
+/// Gives a run with tables that are longer than it needs by so much, and looks at every place of them.
+fn into_tables(
+    mut register: Register,
+    desks: &[u32],
+    more_places: usize,
+    more_words: usize,
+    answers: &[Result<Answer, Refusal>],
+    after: &Register,
+) {
+    let n = register.desks() as usize;
+    let mut table = vec![BEFORE; desks.len() + more_places];
+    let mut pages = vec![WORD; desks.len() * n + more_words];
+    register.run_into(desks, &mut table, &mut pages).unwrap();
+    assert_eq!(register, *after);
+    assert_eq!(table, [answers, &vec![BEFORE; more_places]].concat());
+    let shown = |answer: &Result<Answer, Refusal>| match answer {
+        Ok(Answer::Page(page)) => page.words().to_vec(),
+        _ => vec![WORD; n],
+    };
+    let mut wanted: Vec<u32> = answers.iter().flat_map(shown).collect();
+    wanted.extend(vec![WORD; more_words]);
+    assert_eq!(pages, wanted);
+}
+
+/// Runs whose tables are too short by a place, a word or both: refused, and nothing changes.
+fn too_short(before: &Register, desks: &[u32]) {
+    let (turns, words) = (desks.len(), desks.len() * before.desks() as usize);
+    let rooms = [(turns - 1, words), (turns, words - 1), (turns - 1, words - 1), (0, 0)];
+    for (places, words) in rooms {
+        let mut register = before.clone();
+        let (mut table, mut pages) = (vec![BEFORE; places], vec![WORD; words]);
+        let refused = register.run_into(desks, &mut table, &mut pages);
+        assert_eq!(refused, Err(Refusal::TableShort));
+        assert_eq!(register, *before);
+        assert_eq!((table, pages), (vec![BEFORE; places], vec![WORD; words]));
+    }
 }
 
 #[test]
@@ -116,6 +168,8 @@ fn refused() {
     let refused = |mut register: Register, desks: &[u32]| {
         let before = register.clone();
         let refusal = register.run(desks).unwrap_err();
+        // The tables of the second are too short, unless there is no turn.
+        assert_eq!(register.run_into(desks, &mut [], &mut []), Err(refusal));
         assert_eq!(register, before);
         refusal.number()
     };
@@ -134,9 +188,13 @@ fn turns_of_a_day_that_cannot_have_arisen() {
     let answers = ran(&mut taken_up(2, 65_536, 2), &[1, 2, 3]);
     assert_eq!(answers, [Err(Refusal::CannotArise); 3]);
     for desks in 9..=12 {
-        let mut register = taken_up(desks, 0, desks as usize);
+        let day = taken_up(desks, 0, desks as usize);
+        let mut register = day.clone();
         assert_eq!(register.run(&[]), Ok(Vec::new()));
-        assert_eq!(register.run(&[1, 0, 13]), Ok(vec![Err(Refusal::CannotArise); 3]));
-        assert_eq!(register, taken_up(desks, 0, desks as usize));
+        let answers = vec![Err(Refusal::CannotArise); 3];
+        assert_eq!(register.run(&[1, 0, 13]), Ok(answers.clone()));
+        assert_eq!(register, day);
+        into_tables(day.clone(), &[1, 0, 13], 1, 1, &answers, &day);
+        too_short(&day, &[1, 0, 13]);
     }
 }

@@ -4,7 +4,7 @@ use Rattle.book.proofs.notes.Notes as N
 use Rattle.book.proofs.notes.Notes.Laws as N′
 use Rattle.walks.proofs.Data.{spelled}
 use Rattle.walks.proofs.Declared.{a-struct}
-use Rattle.walks.proofs.Walking.{Datum, Has, an-array, a-u32}
+use Rattle.walks.proofs.Walking.{Datum, Has, its, an-array, a-u32}
 use Rattle.memory.proofs.Types.{a-process, a-day}
 
 abbrev pub a-table : Datum
@@ -17,12 +17,4 @@ abbrev pub a-notes : Datum
 a-notes = a-struct N.the-type N′.lowers N′.the-plain N′.the-laws N′.the-copy refl
 
 abbrev pub its-day : Has a-notes a-day 0
-its-day =
-    record {
-      get = λ s. s .day;
-      shape = refl;
-      found = refl;
-      spells = λ s. refl;
-      got = λ s. refl;
-      fine-get = λ s is. spelled a-day (s .day) _ (is .1 .1 .0);
-    }
+its-day = its (λ s. s .day) refl refl (λ s. refl) (λ s. refl) (λ s is. spelled a-day (s .day) _ (is .1 .1 .0))

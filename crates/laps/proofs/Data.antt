@@ -16,7 +16,7 @@ use Rattle.laps.proofs.records.Running as R
 use Rattle.laps.proofs.records.Running.Laws as R′
 use Rattle.walks.proofs.Data.{spelled}
 use Rattle.walks.proofs.Declared.{a-struct}
-use Rattle.walks.proofs.Walking.{Datum, Has, an-array}
+use Rattle.walks.proofs.Walking.{Datum, Has, its, an-array}
 use Rattle.memory.proofs.Types.{a-process, a-day}
 
 abbrev pub a-table : Datum
@@ -43,34 +43,12 @@ pub table-as : (xs : List Process) (vs : List Val) → Is Fields (map (X.the-fie
 table-as xs vs p = (p .0, ((p .1 .0 .0, sym (length-map xs (X.the-field .into)) ∙ p .1 .0 .1), each-as xs (p .0) (p .1 .1)))
 
 abbrev pub its-day : Has a-progress a-day 0
-its-day =
-    record {
-      get = λ p. p .day;
-      shape = refl;
-      found = refl;
-      spells = λ p. refl;
-      got = λ p. refl;
-      fine-get = λ p is. spelled a-day (p .day) _ (is .1 .1 .0);
-    }
+its-day = its (λ p. p .day) refl refl (λ p. refl) (λ p. refl) (λ p is. spelled a-day (p .day) _ (is .1 .1 .0))
 
 abbrev pub its-progress : Has a-running a-progress 0
-its-progress =
-    record {
-      get = λ r. r .progress;
-      shape = refl;
-      found = refl;
-      spells = λ r. refl;
-      got = λ r. refl;
-      fine-get = λ r is. spelled a-progress (r .progress) _ (is .1 .1 .0);
-    }
+its-progress = its (λ r. r .progress) refl refl (λ r. refl) (λ r. refl) (λ r is. spelled a-progress (r .progress) _ (is .1 .1 .0))
 
 abbrev pub its-table : Has a-running a-table 1
 its-table =
-    record {
-      get = λ r. r .table;
-      shape = refl;
-      found = refl;
-      spells = λ r. refl;
-      got = λ r. refl;
-      fine-get = λ r is. spelled a-table (r .table) _ (table-as (r .table) _ (is .1 .1 .1 .0));
-    }
+    its (λ r. r .table) refl refl (λ r. refl) (λ r. refl)
+    (λ r is. spelled a-table (r .table) _ (table-as (r .table) _ (is .1 .1 .1 .0)))

@@ -2,7 +2,7 @@
 -- register and task have rules of their own (`register-field`, `task-field`), because a turn stores these two in place.
 use mathlib.Core.Path.{refl}
 use mathlib.Core.List.{[], _∷_}
-use Rattle.walks.proofs.Walking.{Datum, Field}
+use Rattle.walks.proofs.Walking.{Datum, its, Field}
 use Rattle.walks.proofs.Data.{spelled}
 use Rattle.walks.proofs.Declared.{a-struct, an-enum}
 use Rattle.unbounded_turns.specs.Steps.{withTask}
@@ -68,15 +68,7 @@ a-request = an-enum Q.the-type Q′.lowers Q′.the-plain Q′.the-laws Q′.the
 abbrev pub register-field : Field a-process a-register 0
 register-field =
     record {
-      has =
-          record {
-            get = λ p. p .register;
-            shape = refl;
-            found = refl;
-            spells = λ p. refl;
-            got = λ p. refl;
-            fine-get = λ p is. spelled a-register (p .register) _ (is .1 .1 .0);
-          };
+      has = its (λ p. p .register) refl refl (λ p. refl) (λ p. refl) (λ p is. spelled a-register (p .register) _ (is .1 .1 .0));
       with = withRegister;
       set = λ r p. refl;
       fine-with = λ r p r-is is.
@@ -86,15 +78,7 @@ register-field =
 abbrev pub task-field : Field a-process a-task 1
 task-field =
     record {
-      has =
-          record {
-            get = λ p. p .task;
-            shape = refl;
-            found = refl;
-            spells = λ p. refl;
-            got = λ p. refl;
-            fine-get = λ p is. spelled a-task (p .task) _ (is .1 .1 .1 .0);
-          };
+      has = its (λ p. p .task) refl refl (λ p. refl) (λ p. refl) (λ p is. spelled a-task (p .task) _ (is .1 .1 .1 .0));
       with = withTask;
       set = λ k p. refl;
       fine-with = λ k p k-is is.

@@ -2,7 +2,7 @@
 use mathlib.Core.Path.{refl}
 use Rattle.walks.proofs.Data.{spelled}
 use Rattle.walks.proofs.Declared.{a-struct}
-use Rattle.walks.proofs.Walking.{Datum, Has, a-usize, a-u32}
+use Rattle.walks.proofs.Walking.{Datum, Has, its, a-usize, a-u32}
 use Rattle.memory.proofs.Types.{a-day, an-answer, an-outcome}
 use Rattle.runs.proofs.Plan as P
 use Rattle.runs.proofs.Plan.Laws as P′
@@ -21,67 +21,19 @@ abbrev pub a-run-outcome : Datum
 a-run-outcome = a-struct O.the-type O′.lowers O′.the-plain O′.the-laws O′.the-copy refl
 
 abbrev pub its-count : Has a-day a-u32 0
-its-count =
-    record {
-      get = λ d. d .count;
-      shape = refl;
-      found = refl;
-      spells = λ d. refl;
-      got = λ d. refl;
-      fine-get = λ d is. spelled a-u32 (d .count) _ (is .1 .1 .0);
-    }
+its-count = its (λ d. d .count) refl refl (λ d. refl) (λ d. refl) (λ d is. spelled a-u32 (d .count) _ (is .1 .1 .0))
 
 abbrev pub its-day : Has a-reached a-day 0
-its-day =
-    record {
-      get = λ x. x .day;
-      shape = refl;
-      found = refl;
-      spells = λ x. refl;
-      got = λ x. refl;
-      fine-get = λ x is. spelled a-day (x .day) _ (is .1 .1 .0);
-    }
+its-day = its (λ x. x .day) refl refl (λ x. refl) (λ x. refl) (λ x is. spelled a-day (x .day) _ (is .1 .1 .0))
 
 abbrev pub its-turns : Has a-reached a-usize 1
-its-turns =
-    record {
-      get = λ x. x .turns;
-      shape = refl;
-      found = refl;
-      spells = λ x. refl;
-      got = λ x. refl;
-      fine-get = λ x is. spelled a-usize (x .turns) _ (is .1 .1 .1 .0);
-    }
+its-turns = its (λ x. x .turns) refl refl (λ x. refl) (λ x. refl) (λ x is. spelled a-usize (x .turns) _ (is .1 .1 .1 .0))
 
 abbrev pub its-words : Has a-reached a-usize 2
-its-words =
-    record {
-      get = λ x. x .words;
-      shape = refl;
-      found = refl;
-      spells = λ x. refl;
-      got = λ x. refl;
-      fine-get = λ x is. spelled a-usize (x .words) _ (is .1 .1 .1 .1 .0);
-    }
+its-words = its (λ x. x .words) refl refl (λ x. refl) (λ x. refl) (λ x is. spelled a-usize (x .words) _ (is .1 .1 .1 .1 .0))
 
 abbrev pub outcome-day : Has an-outcome a-day 0
-outcome-day =
-    record {
-      get = λ o. o .day;
-      shape = refl;
-      found = refl;
-      spells = λ o. refl;
-      got = λ o. refl;
-      fine-get = λ o is. spelled a-day (o .day) _ (is .1 .1 .0);
-    }
+outcome-day = its (λ o. o .day) refl refl (λ o. refl) (λ o. refl) (λ o is. spelled a-day (o .day) _ (is .1 .1 .0))
 
 abbrev pub outcome-answer : Has an-outcome an-answer 1
-outcome-answer =
-    record {
-      get = λ o. o .answer;
-      shape = refl;
-      found = refl;
-      spells = λ o. refl;
-      got = λ o. refl;
-      fine-get = λ o is. spelled an-answer (o .answer) _ (is .1 .1 .1 .0);
-    }
+outcome-answer = its (λ o. o .answer) refl refl (λ o. refl) (λ o. refl) (λ o is. spelled an-answer (o .answer) _ (is .1 .1 .1 .0))

@@ -148,6 +148,14 @@ pub record Has (X F : Datum) (j : ℕ) : Type 2 where
   pub got : (x : Of X) → getV (valsOf (X .spell x)) j ≡ F .spell (get x)
   pub fine-get : (x : Of X) → Fine X x → Fine F (get x)
 
+-- a field by how it is got; of a declared struct all that follows is found by computing, but that the value is fine
+abbrev pub its : {X F : Datum} {j : ℕ} (get : Of X → Of F) → X .ty ≡ tyStruct (symOf (X .ty)) (tysOf (X .ty)) →
+    fieldAt zero (tysOf (X .ty)) j ≡ some (F .ty, offsetIn (fieldAt zero (tysOf (X .ty)) j)) →
+    ((x : Of X) → X .spell x ≡ vstruct (valsOf (X .spell x))) →
+    ((x : Of X) → getV (valsOf (X .spell x)) j ≡ F .spell (get x)) → ((x : Of X) → Fine X x → Fine F (get x)) → Has X F j
+its get shape found spells got fine =
+    record { get = get; shape = shape; found = found; spells = spells; got = got; fine-get = fine }
+
 -- and how it is put
 pub record Field (X F : Datum) (j : ℕ) : Type 2 where
   pub has : Has X F j

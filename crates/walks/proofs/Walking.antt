@@ -10,7 +10,7 @@ pub use Rattle.walks.proofs.Rules.{calls-shared-is, calls-lent, calls-t
 pub use Rattle.walks.proofs.Locals.{lends-again, counts, copies, unit-stored, if-leaves, swaps, swaps-pairs}
 pub use Rattle.walks.proofs.Ends.{begins-shared, begins-lent, begins-two, ends-shared, ends-lent, ends-two}
 pub use Rattle.walks.proofs.Ends.{begins-three, ends-three, three-open}
-pub use Rattle.walks.proofs.Owned.{Has, Field, begins-own, ends-own, reads-whole, stores-whole, reads-field}
+pub use Rattle.walks.proofs.Owned.{Has, its, Field, begins-own, ends-own, reads-whole, stores-whole, reads-field}
 pub use Rattle.walks.proofs.Owned.{stores-field, calls-on}
 pub use Rattle.walks.proofs.Parts.{copies-field, gets-parts, gets-parts-last, field-seen, seen, all-seen}
 pub use Rattle.walks.proofs.Elements.{offset-fits, finds-element, copies-element, lends-element, calls-element}
