@@ -7,7 +7,7 @@ use native.Mathlib.Omega.{arith}
 use mathlib.Core.Path.{_≡_, refl, sym, ap, _∙_, subst}
 use mathlib.Core.Bool.{true}
 use mathlib.Core.List.{List, [], _∷_, _++_, map, append-assoc}
-use mathlib.Core.Option.{Option, none, some}
+use mathlib.Core.Option.{Option, none, some, Option·some-ne-none}
 use lib.Dec.{ltb}
 use lib.ListN.{length, take, drop, length-drop, take-append-drop}
 use lib.Seq.{length-take-le, take-all, take-at, drop-at, drop-drop}
@@ -252,6 +252,9 @@ module _ (M : Machine) (n : ℕ) (z : 0 < n) (Good : State (M .Process) → Type
       (subst (λ k. SameRun s ds answers pages (runUnless (giveTurn M) told w k s ds answers pages))
       (sym (expected-here ds answers pages)) (go (expectedRun w ds answers pages) refl))
     where
+      room-suffices : length ds ≤ length answers → length ds * w ≤ length pages → expectedRun w ds answers pages ≡ none
+      room-suffices a p = simp (le-ltb (length answers) (length ds) a, le-ltb (length pages) (length ds * w) p)
+
       go : (k : Option Refusal) → expectedRun w ds answers pages ≡ k →
           SameRun s ds answers pages (runUnless (giveTurn M) told w k s ds answers pages)
       go (some k) e =
@@ -261,12 +264,19 @@ module _ (M : Machine) (n : ℕ) (z : 0 < n) (Good : State (M .Process) → Type
             size = size;
             state = ap (λ j. stateAfter (method M n) s (unlessRefused j (turnsOf w ds pages))) (sym e);
             told-same = ap (λ j. heard (method M n) s (unlessRefused j (turnsOf w ds pages))) (sym e);
-            fits = record { refused = sym e; answersRemain = refl; pagesRemain = refl };
+            fits = record {
+              refused = sym e;
+              given = λ a p. sym e ∙ room-suffices a p;
+              fits = λ j. absurd (Option·some-ne-none k j);
+              answersRemain = refl;
+              pagesRemain = refl;
+            };
           }
       go none e =
           let room = or-neither (ltb (length answers) (length ds)) (ltb (length pages) (length ds * w))
           (accepted-passes ((isCramped w (length ds) (length answers) (length pages), TableShort) ∷ []) e .0) in
-          let t = turns-same ds s answers pages q g (ltb-false (length pages) (length ds * w) (room .1)) in
+          let enough = ltb-false (length pages) (length ds * w) (room .1) in
+          let t = turns-same ds s answers pages q g enough in
           let r = turnsFrom (giveTurn M) told w s ds answers pages in
           let taken = turns-taken (giveTurn M) told w s ds answers pages in
           record {
@@ -278,6 +288,8 @@ module _ (M : Machine) (n : ℕ) (z : 0 < n) (Good : State (M .Process) → Type
                 ∙ t .told-same ∙ ap (λ j. heard (method M n) s (unlessRefused j (turnsOf w ds pages))) (sym e);
             fits = record {
               refused = taken ∙ sym e;
+              given = λ a p. taken;
+              fits = λ j. (ltb-false (length answers) (length ds) (room .0), enough);
               answersRemain = subst (λ j. let turns = length (unlessRefused j ds) in drop turns (r .answers) ≡ drop turns answers)
                   (sym taken) (t .answers-remain);
               pagesRemain = subst (λ j. let words = length (unlessRefused j ds) * w in drop words (r .pages) ≡ drop words pages)

@@ -1,5 +1,5 @@
 -- A run of turns at once (document 02, K4): its refusals, what it leaves, and lists in which runs stand.
-use Prim.Native.Nat.{ℕ, _*_}
+use Prim.Native.Nat.{ℕ, _*_, _≤_}
 use mathlib.Core.Path.{_≡_}
 use mathlib.Core.Bool.{Bool, not, _||_}
 use mathlib.Core.List.{List, [], _∷_, _++_}
@@ -37,9 +37,9 @@ pub record RunResult (S A : Type 0) : Type 0 where
   pub answers : List A
   pub pages : List ℕ
 
--- give s d page is a turn of process d that lends a page list, told what an answer table holds of its result, and page the words
--- of a page
-module _ {S A : Type 0} (give : S → (process : ℕ) → (page : List ℕ) → Result S) (told : Result S → A) (page : ℕ) where
+-- give s d ws is a turn of process d that lends page list ws, told what an answer table holds of its result, and page how many words
+-- a page has
+module _ {S A : Type 0} (give : S → (process : ℕ) → (ws : List ℕ) → Result S) (told : Result S → A) (page : ℕ) where
   -- "each is one turn. Answers go in a lent table in order, pages in a second table at n words a turn; every other place of both
   -- remains": the first turn takes the first place of the one and the first words of the other, and the next follows, refused or
   -- not
@@ -133,10 +133,13 @@ module _ (M : Machine) (n : ℕ) where
       let r = answered M s ds answers pages in
       unlessRefused (r .refusal) (heardTurns ds (r .answers) (r .pages)) ++ heardOfAll (r .state) qs
 
-  -- of one run: it is refused as expected, and "every other place of both remains"; all of them where it is refused
+  -- of one run: it is refused as expected, which is to say, given if and only if each turn has a place and the words of a page;
+  -- and "every other place of both remains", all of them where it is refused
   pub record RunFits (ds : List ℕ) (answers : List Answer) (pages : List ℕ)
       (r : RunResult (State (M .Process)) Answer) : Type 0 where
     pub refused : r .refusal ≡ expectedRun (M .pageLength n) ds answers pages
+    pub given : length ds ≤ length answers → length ds * M .pageLength n ≤ length pages → r .refusal ≡ none
+    pub fits : r .refusal ≡ none → (length ds ≤ length answers) × (length ds * M .pageLength n ≤ length pages)
     pub answersRemain :
         let turns = length (unlessRefused (r .refusal) ds) in
         drop turns (r .answers) ≡ drop turns answers

@@ -4,6 +4,7 @@ use Prim.Native.Nat.{ℕ}
 use mathlib.Core.List.{List, [], _∷_, _++_, map}
 use mathlib.Core.Option.{Option, none, some}
 use lib.ListN.{replicate}
+use Rattle.snapshot.specs.declared.Day.{Day}
 use Rattle.snapshot.specs.declared.Refusal.{Refusal}
 use Rattle.snapshot.specs.declared.Answer.the-variants.{Opened}
 use Rattle.snapshot.specs.Refusals.{numberOf}
@@ -17,11 +18,11 @@ use Rattle.unbounded.specs.Registers.{ascending}
 use Rattle.unbounded.specs.Processes.{zeroProcess}
 use Rattle.unbounded.specs.Days.{figure3, method, openedFor}
 
--- what a run leaves but the table of records: its own refusal, if any, by its number, the event number, the replies in the answer
--- table, and the page table
+-- what a run leaves but the table of records: its own refusal, if any, by its number, the day, the replies in the answer table, and
+-- the page table
 pub record Left : Type 0 where
   pub refusal : Option ℕ
-  pub event : ℕ
+  pub day : Day
   pub replies : List (Reply ℕ)
   pub pages : List ℕ
 
@@ -48,7 +49,7 @@ left x =
     (wordsFrom 90 (x .words)) in
     record {
       refusal = numbered (r .refusal);
-      event = r .state .day .event;
+      day = r .state .day;
       replies = map (replyOf []) (r .answers);
       pages = r .pages;
     }
@@ -59,9 +60,12 @@ left x =
 abbrev bothCalled : State Process
 bothCalled = stateAfter (method ascending 2) (openedFor 2) (scanCall 1 ∷ updateCall 2 7 ∷ [])
 
+abbrev dayAt : (count event : ℕ) → Day
+dayAt n e = record { count = n; event = e }
+
 -- a day of n processes at event 0 with so many idle records
 abbrev idleDay : (n records : ℕ) → State Process
-idleDay n records = record { day = record { count = n; event = 0 }; table = replicate records zeroProcess }
+idleDay n records = record { day = dayAt n 0; table = replicate records zeroProcess }
 
 -- ---- runs
 
@@ -73,7 +77,7 @@ abbrev refusedRun : State Process → List ℕ → (places words k : ℕ) → Ru
 refusedRun s ds places words k =
     runOf s ds places words (record {
       refusal = some k;
-      event = s .day .event;
+      day = s .day;
       replies = replicate places opened;
       pages = wordsFrom 90 words;
     })
@@ -89,7 +93,7 @@ abbrev mixedRun : (places words : ℕ) → (opened-left : List (Reply ℕ)) → 
 mixedRun places words answers ws =
     runOf bothCalled mixed places words (record {
       refusal = none;
-      event = 7;
+      day = dayAt 2 7;
       replies = mixedReplies ++ answers;
       pages = wordsFrom 90 10 ++ 0 ∷ 0 ∷ wordsFrom 102 4 ++ ws;
     })
@@ -103,21 +107,25 @@ runDays =
     -- 2 alone writes its register at its fifth turn; the next finds it idle
     ∷ runOf bothCalled (replicate 6 2) 6 12 (record {
       refusal = none;
-      event = 7;
+      day = dayAt 2 7;
       replies = replicate 4 read ++ written 5 ∷ refused 4 ∷ [];
       pages = wordsFrom 90 12;
     })
     -- no turns
-    ∷ runOf bothCalled [] 0 0 (record { refusal = none; event = 2; replies = []; pages = [] })
+    ∷ runOf bothCalled [] 0 0 (record { refusal = none; day = dayAt 2 2; replies = []; pages = [] })
     -- 10, then 6, then 13
     ∷ refusedRun (idleDay 0 1) (1 ∷ []) 0 0 10
     ∷ refusedRun (idleDay 2 1) (1 ∷ []) 0 0 6
     ∷ refusedRun (idleDay 2 3) (1 ∷ []) 1 2 6
     ∷ refusedRun (idleDay 2 2) (1 ∷ []) 0 0 13
+    -- 10 and 6 also without turns, and 6 also on a day of nine
+    ∷ refusedRun (idleDay 0 0) [] 0 0 10
+    ∷ refusedRun (idleDay 2 1) [] 0 0 6
+    ∷ refusedRun (idleDay 9 8) (1 ∷ []) 1 9 6
     -- each turn of a day that cannot have arisen is refused by itself
     ∷ runOf (idleDay 9 9) (1 ∷ 0 ∷ []) 2 18 (record {
       refusal = none;
-      event = 0;
+      day = dayAt 9 0;
       replies = refused 11 ∷ refused 11 ∷ [];
       pages = wordsFrom 90 18;
     })
