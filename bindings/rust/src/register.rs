@@ -162,7 +162,12 @@ impl Register {
     /// Refused as an [entry call](Self::entry), but with [`DeskIdle`](Refusal::DeskIdle) if the
     /// desk has no call under way, and never with [`DayFull`](Refusal::DayFull).
     pub fn turn(&mut self, desk: u32) -> Result<Answer, Refusal> {
-        self.step(Request::Turn { desk }, &mut [0; Register::MOST_DESKS])
+        let turn = Request::Turn { desk };
+        match self.page_words() {
+            // A day that was taken up with more desks than any has is not refused for its page list.
+            n if n > Register::MOST_DESKS => self.step(turn, &mut vec![0; n]),
+            _ => self.step(turn, &mut [0; Register::MOST_DESKS]),
+        }
     }
 
     /// A run of turns: one for each desk number in the list, in order, as [`turn`](Self::turn) gives
@@ -188,8 +193,7 @@ impl Register {
     /// if the day is not open, then with [`LentSize`](Refusal::LentSize) if it was taken up without
     /// exactly one record for each desk. Whatever else is wrong is answered to each turn.
     pub fn run(&mut self, desks: &[u32]) -> Result<Vec<Result<Answer, Refusal>>, Refusal> {
-        // What a day asks for that has a record for each desk; any other is refused before.
-        let n = self.records.len().min(self.desks as usize);
+        let n = self.page_words();
         let mut pages = vec![0; n * desks.len()];
         let replies = self.replies(desks, desks.len(), &mut pages)?;
         Ok((0..).zip(&replies).map(|(i, own)| answer(own, &pages[n * i..])).collect())
@@ -230,6 +234,12 @@ impl Register {
             *place = answer(own, &pages[n * i..]);
         }
         Ok(())
+    }
+
+    /// The words of a page, for a day with a record for each desk; any other is refused before it is
+    /// lent any.
+    fn page_words(&self) -> usize {
+        self.records.len().min(self.desks as usize)
     }
 
     /// Gives a run of turns, for whose answers there are so many places. It answers the reply to each.

@@ -158,8 +158,8 @@ fn days_that_cannot_have_arisen() {
     let mut nine = Register::from_parts(9, 0, blank(9));
     assert_eq!(nine.page(1), Err(Refusal::CannotArise));
     assert_eq!(refused(&mut nine, Request::Turn { desk: 1 }, &mut [5; 9]), 11);
-    // A turn of its own lends eight words, which is too few.
-    assert_eq!(nine.turn(1), Err(Refusal::LentSize));
+    assert_eq!(refused(&mut nine, Request::Turn { desk: 1 }, &mut [5; 8]), 6);
+    assert_eq!(nine.turn(1), Err(Refusal::CannotArise));
     for records in [0, 1, 3, 9] {
         let mut register = Register::from_parts(2, 0, blank(records));
         assert_eq!(refused(&mut register, Request::Page { desk: 1 }, &mut []), 6);

@@ -8,7 +8,6 @@ use mathlib.Core.Path.{_≡_, refl, sym, ap, _∙_, subst}
 use mathlib.Core.Bool.{true}
 use mathlib.Core.List.{List, [], _∷_, _++_, map, append-assoc}
 use mathlib.Core.Option.{Option, none, some, Option·some-ne-none}
-use lib.Dec.{ltb}
 use lib.ListN.{length, take, drop, length-drop, take-append-drop}
 use lib.Seq.{length-take-le, take-all, take-at, drop-at, drop-drop}
 use borrow.Author.Tests.{eq-eqb, ne-eqb, le-ltb, ltb-false}
@@ -273,7 +272,7 @@ module _ (M : Machine) (n : ℕ) (z : 0 < n) (Good : State (M .Process) → Type
             };
           }
       go none e =
-          let room = or-neither (ltb (length answers) (length ds)) (ltb (length pages) (length ds * w))
+          let room = or-neither _ _
           (accepted-passes ((isCramped w (length ds) (length answers) (length pages), TableShort) ∷ []) e .0) in
           let enough = ltb-false (length pages) (length ds * w) (room .1) in
           let t = turns-same ds s answers pages q g enough in
