@@ -24,9 +24,9 @@ use Rattle.snapshot.proofs.Booleans.{bool-cases}
 use Rattle.snapshot.proofs.Causes.{accepted-passes, first-none, first-some}
 use Rattle.snapshot.proofs.Admitted.{Suited, suits, admitted-call, admitted-turn, turn-room}
 use Rattle.requests.specs.Requests.{itemOf, isOpening, isCall}
-use Rattle.admission.specs.declared.Survey.{Survey}
+use Rattle.table_surveys.specs.declared.Survey.{Survey}
 use Rattle.admission.specs.Checks.{isRefusal, openingChecks, isShort, firstRefusal, lastRefusal}
-use Rattle.admission.proofs.Surveyed.{Surveyed, end-same, end-past}
+use Rattle.table_surveys.proofs.Surveyed.{Surveyed, end-same, end-past}
 
 -- ---- a refusal, or none
 

@@ -1,10 +1,10 @@
 -- Refusals as the code finds them, from the day, the size of the table and what was seen of the records: in two parts, since that
 -- a process has a record is known only once the first has passed. That they are the day's refusals is proved (proofs/Checked).
-use Prim.Native.Nat.{ℕ, _+_, _-_}
+use Prim.Native.Nat.{ℕ, _+_}
 use mathlib.Core.Bool.{Bool, true, false, cond, not, _&&_, _||_}
 use mathlib.Core.List.{List, [], _∷_}
 use mathlib.Core.Option.{Option, none, some}
-use lib.Dec.{eqb, leb, ltb}
+use lib.Dec.{eqb, ltb}
 use Rattle.snapshot.specs.Refusals.{Cause, firstCause, outside, isPast}
 use Rattle.snapshot.specs.Requests.{numberIn}
 use Rattle.snapshot.specs.Days.{cannotArise}
@@ -14,7 +14,7 @@ use Rattle.snapshot.specs.declared.Request.the-variants.{Open, Update, Scan, Tu
 use Rattle.snapshot.specs.declared.Refusal.{Refusal}
 use Rattle.snapshot.specs.declared.Refusal.the-variants.{CountRange, ProcessRange, Busy, Idle, DayFull, LentSize}
 use Rattle.snapshot.specs.declared.Refusal.the-variants.{OpenState, CannotArise}
-use Rattle.admission.specs.declared.Survey.{Survey}
+use Rattle.table_surveys.specs.declared.Survey.{Survey}
 use Rattle.admission.specs.declared.Check.{Check}
 use Rattle.admission.specs.declared.Check.the-variants.{Passed, Refused}
 use Rattle.requests.specs.Requests.{isCall}
@@ -37,20 +37,6 @@ openingChecks day size k =
 -- 6: "on a turn, the page list has fewer than n words" (an opening, of which it is not asked, counts as a turn)
 abbrev pub isShort : Day → (words : ℕ) → Request → Bool
 isShort day words x = not (isCall x) && ltb words (day .count)
-
--- K2: "event number plus all turns owed", one task after the other; what is past 65,535 is not added to, so that no sum overflows
-abbrev pub endWith : (end owed : ℕ) → ℕ
-endWith end owed = cond (isPast end) end (end + owed)
-
--- s, with this event that all work ends by, and bad or not
-abbrev pub surveyWith : Survey → (end : ℕ) → (bad : Bool) → Survey
-surveyWith s end bad =
-    record { «scan_most» = s .«scan_most»; «update_more» = s .«update_more»; event = s .event; end = end; bad = bad }
-
--- once a task is looked at too that cannot have had most turns (11): until then it owes what is left of these, and more after them
-abbrev pub waitsBy : Survey → (most more turns : ℕ) → Survey
-waitsBy s most more turns =
-    cond (leb most turns) (surveyWith s (s .end) true) (surveyWith s (endWith (s .end) (most - turns + more)) (s .bad))
 
 -- "For calls and turns: 10, 6, 11, 2 ..": of process d, by whether the page list is short, the event that all work ends by, and
 -- whether some record is bad

@@ -1,18 +1,17 @@
 // Refusals, in document 01's order. Each check is the list of causes that its definition is; `cause` is one of them over those
 // that come after it.
 use crate::Check;
-use crate::Survey;
 use snapshot::Day;
 use snapshot::Refusal;
 use snapshot::Request;
 use snapshot::number_in;
+use table_surveys::Survey;
 ghost use mathlib.Core.Path.{_≡_};
 ghost use mathlib.Core.Bool.{cond};
 ghost use mathlib.Core.Option.{some};
-ghost use Prim.Native.Nat.{_+_, _≤_};
-ghost use Rattle.snapshot.specs.Refusals.{outside, isPast};
-ghost use Rattle.snapshot.specs.Days.{cannotArise};
-ghost use Rattle.admission.specs.Checks.{asOption, isRefusal, isShort, endWith, waitsBy, mostFor};
+ghost use Prim.Native.Nat.{_≤_};
+ghost use Rattle.snapshot.specs.Refusals.{outside};
+ghost use Rattle.admission.specs.Checks.{asOption, isRefusal, isShort, mostFor};
 ghost use Rattle.admission.specs.Checks.{openingRefusal, firstRefusal, lastRefusal};
 
 // A cause and those after it: its refusal where it holds, else theirs.
@@ -35,54 +34,6 @@ fn is_outside(low: u32, high: u32, k: u32) -> bool
     high < k
 }
 
-// The event number plus what was owed so far, and what one task more owes.
-fn end_with(sum: u32, owed: u32) -> u32
-    requires { ⌜ owed ≤ 196605 ⌝ }
-    ensures { λ r. ⌜ r ≡ endWith sum owed ⌝ }
-{
-    if 65535 < sum {
-        return sum;
-    }
-    sum + owed
-}
-
-// What is found once a task is looked at too that cannot have had `most` turns: until then it owes these, and `more` after them.
-pub fn waits(s: Survey, most: u32, more: u32, turns: u32) -> Survey
-    requires { ⌜ (most ≤ 131070) × (more ≤ 65535) ⌝ }
-    ensures { λ t. ⌜ t ≡ waitsBy s most more turns ⌝ }
-{
-    if most <= turns {
-        return Survey {
-            scan_most: s.scan_most,
-            update_more: s.update_more,
-            event: s.event,
-            end: s.end,
-            bad: true,
-        };
-    }
-    let owed = most - turns + more;
-    Survey {
-        scan_most: s.scan_most,
-        update_more: s.update_more,
-        event: s.event,
-        end: end_with(s.end, owed),
-        bad: s.bad,
-    }
-}
-
-// Whether a day cannot have arisen, by its count and the survey.
-fn cannot_arise(count: u32, s: Survey) -> bool
-    ensures { λ b. ⌜ b ≡ cannotArise count (s .end) (s .bad) ⌝ }
-{
-    if 8 < count {
-        return true;
-    }
-    if 65535 < s.end {
-        return true;
-    }
-    s.bad
-}
-
 // The most turns of the task that a call sets.
 fn most_for(s: Survey, x: Request) -> u32
     ensures { λ r. ⌜ r ≡ mostFor s x ⌝ }
@@ -97,17 +48,6 @@ fn most_for(s: Survey, x: Request) -> u32
         Request::Scan(_) => s.scan_most as u32,
         Request::Turn(_) => s.scan_most as u32,
     }
-}
-
-// Whether a call, and then a task of so many turns, would go past event 65,535 where all work is to end by that event.
-fn is_full(end: u32, most: u32) -> bool
-    requires { ⌜ most ≤ 131070 ⌝ }
-    ensures { λ b. ⌜ b ≡ isPast (end + 1 + most) ⌝ }
-{
-    if 65535 < end {
-        return true;
-    }
-    65535 < end + 1 + most
 }
 
 // Whether a page list of that many words is too short for a call or a turn.
@@ -149,7 +89,7 @@ pub fn first_check(day: Day, size: usize, s: Survey, x: Request, words: usize) -
     if is_short(day, words, x) {
         return Check::Refused(Refusal::LentSize);
     }
-    if cannot_arise(day.count, s) {
+    if table_surveys::cannot_arise(day.count, s) {
         return Check::Refused(Refusal::CannotArise);
     }
     if is_outside(1, day.count, number_in(x)) {
@@ -164,7 +104,7 @@ pub fn last_check(s: Survey, x: Request, idle: bool) -> Check
 {
     if requests::is_call(x) {
         let full = cause(
-            is_full(s.end, most_for(s, x)),
+            table_surveys::is_full(s.end, most_for(s, x)),
             Refusal::DayFull,
             Check::Passed,
         );

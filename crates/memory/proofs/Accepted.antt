@@ -22,7 +22,7 @@ use Rattle.snapshot.proofs.Lists.{some-of-false}
 use Rattle.requests.specs.Requests.{itemOf, pageAfter, isOpening, isCall}
 use Rattle.admission.specs.Checks.{isRefusal, openingRefusal, firstRefusal, lastRefusal}
 use Rattle.admission.specs.Outcomes.{refusedOutcome, acceptedOutcome, openedOutcome}
-use Rattle.admission.specs.declared.Survey.{Survey}
+use Rattle.table_surveys.specs.declared.Survey.{Survey}
 use Rattle.admission.proofs.Checked.{opening-checks, refused-some, Passed, Accepted, accepted-item, accepted-turn}
 use Rattle.admission.proofs.Checked.{first-refuses, first-passes, last-refuses}
 use Rattle.unbounded.specs.declared.Register.{Register}

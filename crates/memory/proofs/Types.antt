@@ -17,8 +17,8 @@ use Rattle.unbounded_accesses.proofs.Access as G
 use Rattle.unbounded_accesses.proofs.Access.Laws as G′
 use Rattle.unbounded_tasks.proofs.Find as F
 use Rattle.unbounded_tasks.proofs.Find.Laws as F′
-use Rattle.admission.proofs.Survey as S
-use Rattle.admission.proofs.Survey.Laws as S′
+use Rattle.table_surveys.proofs.Survey as S
+use Rattle.table_surveys.proofs.Survey.Laws as S′
 use Rattle.admission.proofs.Check as C
 use Rattle.admission.proofs.Check.Laws as C′
 use Rattle.snapshot.proofs.Day as D

@@ -1,6 +1,6 @@
 // The records of the lent table: each function takes one out, or lends one on, and asks a function on a record by value
 // (crate `unbounded_turns`). None knows a part of a day, a task or a collect.
-use admission::Survey;
+use table_surveys::Survey;
 use unbounded::Process;
 use unbounded::Register;
 use unbounded::Task;

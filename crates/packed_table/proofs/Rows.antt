@@ -22,7 +22,7 @@ use Rattle.snapshot.proofs.Lists.{getD-map-below, over-more}
 use Rattle.requests.specs.Requests.{itemOf, isOpening, isCall}
 use Rattle.admission.specs.Checks.{isRefusal, firstRefusal}
 use Rattle.admission.specs.Outcomes.{refusedOutcome}
-use Rattle.admission.specs.declared.Survey.{Survey}
+use Rattle.table_surveys.specs.declared.Survey.{Survey}
 use Rattle.unbounded.specs.declared.Process.{Process}
 use Rattle.unbounded.specs.declared.Task.{Task}
 use Rattle.unbounded.specs.declared.Task.the-variants as Tasks

@@ -2,12 +2,12 @@
 // of every record what refusal 11 looks at, the register that is read, and the process's own record where a double collect ends. Only
 // the record that changes is stored to.
 use admission::Check;
-use admission::Survey;
 use admission::checks;
 use admission::outcomes;
 use snapshot::Day;
 use snapshot::Outcome;
 use snapshot::Request;
+use table_surveys::Survey;
 use unbounded::Task;
 use unbounded_accesses::accesses;
 use unbounded_finds::finds;

@@ -9,9 +9,9 @@ use lib.Dec.{leb, ltb}
 use borrow.Author.Tests.{ltb-false, leb-false, le-ltb}
 use Rattle.snapshot.specs.Days.{State}
 use Rattle.snapshot.proofs.Booleans.{bool-cases, or-neither}
-use Rattle.admission.specs.Checks.{surveyWith, waitsBy}
-use Rattle.admission.specs.declared.Survey.{Survey}
-use Rattle.admission.proofs.Surveyed.{Surveyed, Looked, owing, looked-all, waiting-looked, resting-looked}
+use Rattle.table_surveys.specs.Surveys.{surveyWith, waitsBy}
+use Rattle.table_surveys.specs.declared.Survey.{Survey}
+use Rattle.table_surveys.proofs.Surveyed.{Surveyed, Looked, owing, looked-all, waiting-looked, resting-looked}
 use Rattle.unbounded.specs.declared.Process.{Process}
 use Rattle.unbounded.specs.declared.Task.{Task}
 use Rattle.unbounded.specs.declared.Task.the-variants.{Idle, Scan, Update, Ready}

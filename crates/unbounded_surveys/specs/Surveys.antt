@@ -3,8 +3,8 @@ use Prim.Native.Nat.{ℕ, _+_}
 use mathlib.Core.Bool.{false, _||_}
 use lib.Dec.{ltb}
 use Rattle.snapshot.specs.declared.Day.{Day}
-use Rattle.admission.specs.declared.Survey.{Survey}
-use Rattle.admission.specs.Checks.{surveyWith, waitsBy}
+use Rattle.table_surveys.specs.declared.Survey.{Survey}
+use Rattle.table_surveys.specs.Surveys.{surveyWith, waitsBy}
 use Rattle.unbounded.specs.declared.Process.{Process}
 use Rattle.unbounded.specs.declared.Task.{Task}
 use Rattle.unbounded.specs.declared.Task.the-variants.{Idle, Scan, Update, Ready}

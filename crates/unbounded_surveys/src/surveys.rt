@@ -1,7 +1,6 @@
 // Whether a record can have arisen, and what it owes: what a look at every record of a table finds, one record at a time.
-use admission::Survey;
-use admission::checks;
 use snapshot::Day;
+use table_surveys::Survey;
 use unbounded::Process;
 use unbounded::Task;
 use unbounded::most_reads;
@@ -63,14 +62,14 @@ pub fn task_seen(s: Survey, k: Task) -> Survey
 {
     match k {
         Task::Idle => s,
-        Task::Scan { turns } => checks::waits(s, s.scan_most as u32, 0, turns),
+        Task::Scan { turns } => table_surveys::waits(s, s.scan_most as u32, 0, turns),
         Task::Update { word: _, turns } => {
-            checks::waits(s, s.scan_most as u32, s.update_more as u32, turns)
+            table_surveys::waits(s, s.scan_most as u32, s.update_more as u32, turns)
         },
         Task::Ready {
             word: _,
             at: _,
             turns,
-        } => checks::waits(s, s.scan_most as u32 + s.update_more as u32, 0, turns),
+        } => table_surveys::waits(s, s.scan_most as u32 + s.update_more as u32, 0, turns),
     }
 }

@@ -1,12 +1,12 @@
--- `admission::checks::is_full` meets its contract.
+-- `table_surveys::is_full` meets its contract.
 use Prim.Native.Nat.{_+_}
 use native.Mathlib.Omega.{arith}
 use mathlib.Core.Path.{refl, sym}
 use borrow.Author.Needs.{needs}
 use borrow.Author.Tests.{lt-ltb}
 use Rattle.snapshot.specs.Refusals.{isPast}
-use Rattle.admission.proofs.checks.is_full.Statement.{statement}
-use Rattle.admission.proofs.checks.is_full.Tie as tie
+use Rattle.table_surveys.proofs.is_full.Statement.{statement}
+use Rattle.table_surveys.proofs.is_full.Tie as tie
 
 returns : tie.Need-returns
 unfolding isPast

@@ -14,8 +14,8 @@ use Rattle.snapshot.specs.Refusals.{isPast}
 use Rattle.snapshot.specs.Tally.{scan, update}
 use Rattle.snapshot.specs.Days.{Machine, State, processOwes, someUnsound}
 use Rattle.snapshot.proofs.Booleans.{or-neither}
-use Rattle.admission.specs.Checks.{endWith, surveyWith, waitsBy}
-use Rattle.admission.specs.declared.Survey.{Survey}
+use Rattle.table_surveys.specs.Surveys.{endWith, surveyWith, waitsBy}
+use Rattle.table_surveys.specs.declared.Survey.{Survey}
 
 -- ---- what is owed, added to an event number
 

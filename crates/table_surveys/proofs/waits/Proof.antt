@@ -1,8 +1,8 @@
--- `admission::checks::waits` meets its contract.
+-- `table_surveys::waits` meets its contract.
 use borrow.Author.Tests.{le-leb, lt-leb}
 use borrow.Author.Needs.{needs}
-use Rattle.admission.proofs.checks.waits.Statement.{statement}
-use Rattle.admission.proofs.checks.waits.Tie as tie
+use Rattle.table_surveys.proofs.waits.Statement.{statement}
+use Rattle.table_surveys.proofs.waits.Tie as tie
 
 returns : tie.Need-returns
 returns c = simp (le-leb _ _ (c .if1 .taken))

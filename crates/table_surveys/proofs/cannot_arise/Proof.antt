@@ -1,8 +1,8 @@
--- `admission::checks::cannot_arise` meets its contract.
+-- `table_surveys::cannot_arise` meets its contract.
 use borrow.Author.Tests.{lt-ltb, le-ltb}
 use Rattle.snapshot.specs.Refusals.{isPast}
-use Rattle.admission.proofs.checks.cannot_arise.Statement.{statement}
-use Rattle.admission.proofs.checks.cannot_arise.Tie as tie
+use Rattle.table_surveys.proofs.cannot_arise.Statement.{statement}
+use Rattle.table_surveys.proofs.cannot_arise.Tie as tie
 
 returns : tie.Need-returns
 returns c = simp (lt-ltb _ _ (c .if1 .taken))

@@ -1,10 +1,10 @@
--- `admission::checks::end_with` meets its contract.
+-- `table_surveys::end_with` meets its contract.
 use native.Mathlib.Omega.{arith}
 use borrow.Author.Needs.{needs}
 use borrow.Author.Tests.{lt-ltb, le-ltb}
 use Rattle.snapshot.specs.Refusals.{isPast}
-use Rattle.admission.proofs.checks.end_with.Statement.{statement}
-use Rattle.admission.proofs.checks.end_with.Tie as tie
+use Rattle.table_surveys.proofs.end_with.Statement.{statement}
+use Rattle.table_surveys.proofs.end_with.Tie as tie
 
 returns : tie.Need-returns
 unfolding isPast

@@ -1,0 +1,2 @@
+-- What a look at every record of a table finds.
+pub mod Surveys
