@@ -9,8 +9,10 @@ use Rattle.unbounded.specs.Days.{stepped}
 use Rattle.memory.specs.Tables.{stateOf, outcomeOf}
 use Rattle.memory.proofs.Accepted.{stepped-refused, stepped-accepted, opening-refused, opened-leaves}
 use Rattle.packed.specs.Packing.{packRecord}
-use Rattle.packed_table.specs.Tables.{unpackedAll, isRefused}
-use Rattle.packed_table.proofs.Rows.{records-long, held, failed, cleared-packed, after-refused, after-accepted, refusal-refused}
+use Rattle.packed_rows.specs.Rows.{unpackedAll}
+use Rattle.packed_table.specs.Tables.{isRefused}
+use Rattle.packed_rows.proofs.Rows.{records-long, held, failed}
+use Rattle.packed_table.proofs.Requests.{cleared-packed, after-refused, after-accepted, refusal-refused}
 use borrow.Author.Needs.{needs}
 use Rattle.packed_table.proofs.open.Statement.{statement}
 use Rattle.packed_table.proofs.open.Tie as tie

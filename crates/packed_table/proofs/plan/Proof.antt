@@ -11,8 +11,9 @@ use Rattle.unbounded.specs.Processes.{isIdle}
 use Rattle.unbounded_surveys.specs.Surveys.{surveyedBy}
 use Rattle.memory.proofs.Accepted.{plan-refuses, plan-number, plan-inside, plan-last}
 use Rattle.packed.specs.Packing.{unpackTask}
-use Rattle.packed_table.specs.Tables.{unpackedAll}
-use Rattle.packed_table.proofs.Rows.{records-long, task-is, held, failed, first-found}
+use Rattle.packed_rows.specs.Rows.{unpackedAll}
+use Rattle.packed_rows.proofs.Rows.{records-long, task-is, held, failed}
+use Rattle.packed_table.proofs.Requests.{first-found}
 use borrow.Author.Needs.{needs}
 use Rattle.packed_table.proofs.plan.Statement.{statement}
 use Rattle.packed_table.proofs.plan.Tie as tie

@@ -9,8 +9,10 @@ use Rattle.unbounded.specs.Days.{stepped}
 use Rattle.memory.specs.Tables.{stateOf, outcomeOf, refusalIn, acceptedIn}
 use Rattle.memory.proofs.Accepted.{stepped-refused, stepped-accepted, call-same, opening-item, called-leaves}
 use Rattle.memory.proofs.Accepted.{after-opening, after-call, after-turn, after-refusal}
-use Rattle.packed_table.specs.Tables.{unpackedAll, packedBy, isRefused, tableAfter}
-use Rattle.packed_table.proofs.Rows.{held, failed, opening-is, after-refused, after-accepted, refusal-refused, turn-accepted}
+use Rattle.packed_rows.specs.Rows.{unpackedAll, packedBy}
+use Rattle.packed_table.specs.Tables.{isRefused, tableAfter}
+use Rattle.packed_rows.proofs.Rows.{held, failed}
+use Rattle.packed_table.proofs.Requests.{opening-is, after-refused, after-accepted, refusal-refused, turn-accepted}
 use borrow.Author.Needs.{needs}
 use Rattle.packed_table.proofs.step.Statement.{statement}
 use Rattle.packed_table.proofs.step.Tie as tie

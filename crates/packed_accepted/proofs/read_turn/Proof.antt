@@ -1,4 +1,4 @@
--- `packed_table::read_turn` meets its contract.
+-- `packed_accepted::read_turn` meets its contract.
 use native.Mathlib.Omega.{arith}
 use Prim.Native.Nat.{_<_}
 use mathlib.Core.Path.{_≡_, sym, ap, _∙_, subst}
@@ -11,11 +11,12 @@ use Rattle.unbounded_finds.specs.Finds.{findOf, pageBy}
 use Rattle.unbounded_turns.specs.Steps.{stateBy}
 use Rattle.unbounded_turns.proofs.Steps.{access-count}
 use Rattle.memory.specs.Turning.{readAt, foundAt}
-use Rattle.packed_table.specs.Tables.{unpackedAll, recordAt, packedAt}
-use Rattle.packed_table.proofs.Rows.{records-long, record-is, register-is, turn-inside}
+use Rattle.packed_rows.specs.Rows.{unpackedAll, recordAt, packedAt}
+use Rattle.packed_rows.proofs.Rows.{records-long, record-is, register-is}
+use Rattle.packed_accepted.proofs.Stored.{turn-inside}
 use borrow.Author.Needs.{needs}
-use Rattle.packed_table.proofs.read_turn.Statement.{statement}
-use Rattle.packed_table.proofs.read_turn.Tie as tie
+use Rattle.packed_accepted.proofs.read_turn.Statement.{statement}
+use Rattle.packed_accepted.proofs.read_turn.Tie as tie
 
 access-of-requires : tie.Need-access-of-requires
 access-of-requires c κs = search needs

@@ -1,4 +1,4 @@
--- `packed_table::clear_all` meets its contract.
+-- `packed_rows::clear_all` meets its contract.
 use Prim.Native.Nat.{_-_, _≤_}
 use native.Mathlib.Omega.{arith}
 use mathlib.Core.Path.{_≡_, refl, sym, ap, _∙_}
@@ -6,9 +6,9 @@ use mathlib.Core.List.{map}
 use lib.ListN.{length, replicate, length-set}
 use borrow.Author.Needs.{needs}
 use Rattle.snapshot.specs.Lists.{over}
-use Rattle.packed_table.proofs.Rows.{cleared-more, cleared-all, zero-words}
-use Rattle.packed_table.proofs.clear_all.Statement.{statement}
-use Rattle.packed_table.proofs.clear_all.Tie as tie
+use Rattle.packed_rows.proofs.Rows.{cleared-more, cleared-all, zero-words}
+use Rattle.packed_rows.proofs.clear_all.Statement.{statement}
+use Rattle.packed_rows.proofs.clear_all.Tie as tie
 
 abbrev Inv-loop : tie.InvT-loop
 Inv-loop t₀ i₀ t i =

@@ -1,4 +1,4 @@
--- `packed_table::write_turn` meets its contract.
+-- `packed_accepted::write_turn` meets its contract.
 use mathlib.Core.Path.{ap, _∙_}
 use lib.ListN.{set}
 use Rattle.admission.specs.Outcomes.{acceptedOutcome}
@@ -6,11 +6,11 @@ use Rattle.unbounded.specs.Registers.{zeroRegister}
 use Rattle.unbounded_tasks.specs.Tasks.{answerBy}
 use Rattle.unbounded_finds.specs.Finds.{nothingFound}
 use Rattle.unbounded_turns.specs.Steps.{stateBy}
-use Rattle.packed_table.specs.Tables.{recordAt, packedAt}
-use Rattle.packed_table.proofs.Rows.{turn-inside, turn-seq}
+use Rattle.packed_rows.specs.Rows.{recordAt, packedAt}
+use Rattle.packed_accepted.proofs.Stored.{turn-inside, turn-seq}
 use borrow.Author.Needs.{needs}
-use Rattle.packed_table.proofs.write_turn.Statement.{statement}
-use Rattle.packed_table.proofs.write_turn.Tie as tie
+use Rattle.packed_accepted.proofs.write_turn.Statement.{statement}
+use Rattle.packed_accepted.proofs.write_turn.Tie as tie
 
 mul-write : tie.Need-mul-write
 mul-write c =

@@ -1,12 +1,12 @@
--- `packed_table::looked_at` meets its contract.
+-- `packed_rows::looked_at` meets its contract.
 use mathlib.Core.Path.{ap, _∙_}
 use Rattle.unbounded_surveys.specs.Surveys.{registerSeen, taskSeen, surveyedBy}
 use Rattle.unbounded_surveys.proofs.Looks.{task-first}
 use lib.ListN.{drop}
 use Rattle.packed.specs.Packing.{unpackTask, unpackRecord}
 use borrow.Author.Needs.{needs}
-use Rattle.packed_table.proofs.looked_at.Statement.{statement}
-use Rattle.packed_table.proofs.looked_at.Tie as tie
+use Rattle.packed_rows.proofs.looked_at.Statement.{statement}
+use Rattle.packed_rows.proofs.looked_at.Tie as tie
 
 task-in-requires : tie.Need-task-in-requires
 task-in-requires c κs = search needs

@@ -1,4 +1,4 @@
--- `packed_table::turn_on` meets its contract.
+-- `packed_accepted::turn_on` meets its contract.
 use Prim.Native.Nat.{_-_, _<_}
 use native.Mathlib.Omega.{arith}
 use mathlib.Core.Path.{_≡_, sym, ap, _∙_, subst}
@@ -16,11 +16,12 @@ use Rattle.unbounded_turns.specs.Steps.{stateBy}
 use Rattle.memory.specs.Turning.{TurnAt, readAt, foundAt}
 use Rattle.memory.proofs.Accepted.{admits, admits-inside, turn-at, page-fits, write-leaves, read-leaves}
 use Rattle.packed.specs.Packing.{unpackTask}
-use Rattle.packed_table.specs.Tables.{unpackedAll, recordAt, packedAt}
-use Rattle.packed_table.proofs.Rows.{records-long, record-is, task-is, stored-packed, held, failed}
+use Rattle.packed_rows.specs.Rows.{unpackedAll, recordAt, packedAt}
+use Rattle.packed_rows.proofs.Rows.{records-long, record-is, task-is, held, failed}
+use Rattle.packed_accepted.proofs.Stored.{stored-packed}
 use borrow.Author.Needs.{needs}
-use Rattle.packed_table.proofs.turn_on.Statement.{statement}
-use Rattle.packed_table.proofs.turn_on.Tie as tie
+use Rattle.packed_accepted.proofs.turn_on.Statement.{statement}
+use Rattle.packed_accepted.proofs.turn_on.Tie as tie
 
 index-in-requires : tie.Need-index-in-requires
 index-in-requires c κs =

@@ -1,4 +1,4 @@
--- `packed_table::survey` meets its contract.
+-- `packed_rows::survey` meets its contract.
 use Prim.Native.Nat.{_+_, _-_, _≤_}
 use native.Mathlib.Omega.{arith}
 use mathlib.Core.Path.{_≡_, refl, sym, ap, _∙_}
@@ -7,10 +7,10 @@ use lib.ListN.{length, drop}
 use lib.Seq.{drop-length}
 use borrow.Author.Needs.{needs}
 use Rattle.unbounded_surveys.specs.Surveys.{surveyedBy}
-use Rattle.packed_table.specs.Tables.{unpackedAll}
-use Rattle.packed_table.proofs.Rows.{looked-more}
-use Rattle.packed_table.proofs.survey.Statement.{statement}
-use Rattle.packed_table.proofs.survey.Tie as tie
+use Rattle.packed_rows.specs.Rows.{unpackedAll}
+use Rattle.packed_rows.proofs.Rows.{looked-more}
+use Rattle.packed_rows.proofs.survey.Statement.{statement}
+use Rattle.packed_rows.proofs.survey.Tie as tie
 
 abbrev Inv-loop : tie.InvT-loop
 Inv-loop t found₀ i₀ found i = (i ≤ length t) × (foldl surveyedBy found (unpackedAll (drop i t)) ≡ foldl surveyedBy found₀

@@ -1,4 +1,4 @@
--- `packed_table::call` meets its contract.
+-- `packed_accepted::call` meets its contract.
 use Prim.Native.Nat.{_-_, _<_}
 use native.Mathlib.Omega.{arith}
 use mathlib.Core.Path.{sym, ap, _∙_}
@@ -11,11 +11,12 @@ use Rattle.unbounded_accesses.specs.Accesses.{callAccess}
 use Rattle.unbounded_tasks.specs.Tasks.{taskFor}
 use Rattle.unbounded_turns.specs.Steps.{begunBy}
 use Rattle.memory.proofs.Accepted.{call-item, admits, admits-day, admits-inside, called-leaves}
-use Rattle.packed_table.specs.Tables.{unpackedAll, recordAt, packedAt}
-use Rattle.packed_table.proofs.Rows.{records-long, record-is, stored-packed}
+use Rattle.packed_rows.specs.Rows.{unpackedAll, recordAt, packedAt}
+use Rattle.packed_rows.proofs.Rows.{records-long, record-is}
+use Rattle.packed_accepted.proofs.Stored.{stored-packed}
 use borrow.Author.Needs.{needs}
-use Rattle.packed_table.proofs.call.Statement.{statement}
-use Rattle.packed_table.proofs.call.Tie as tie
+use Rattle.packed_accepted.proofs.call.Statement.{statement}
+use Rattle.packed_accepted.proofs.call.Tie as tie
 
 call-access-requires : tie.Need-call-access-requires
 call-access-requires c κs =

@@ -1,0 +1,2 @@
+-- What an accepted call or turn stores.
+pub mod Stored

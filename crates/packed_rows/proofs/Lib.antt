@@ -1,0 +1,2 @@
+-- The records of a table of packed records.
+pub mod Rows

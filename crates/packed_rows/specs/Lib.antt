@@ -1,0 +1,2 @@
+-- A table of packed records.
+pub mod Rows
