@@ -95,5 +95,5 @@ pub fn lay(x: Reading, o: Outcome, page: &[u32], out: &mut [u8], to: usize) -> u
 {
     let day = o.day;
     let n = shown(day.count, page.len());
-    daytext::lay(line_of(x, o), &page[..n], out, to)
+    laying::lay(line_of(x, o), &page[..n], out, to)
 }

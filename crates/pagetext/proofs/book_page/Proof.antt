@@ -1,11 +1,11 @@
--- `daytext::lines::book_page` meets its contract: the parts, as they are laid, are the line's text.
+-- `pagetext::book_page` meets its contract: the parts, as they are laid, are the line's text.
 use mathlib.Core.List.{append-assoc}
 use native.Mathlib.Omega.{arith}
 use Rattle.daytext.specs.Lines.{bodyOf}
 use Rattle.texts.proofs.Laying.{in-turn}
 use borrow.Author.Needs.{needs}
-use Rattle.daytext.proofs.lines.book_page.Statement.{statement}
-use Rattle.daytext.proofs.lines.book_page.Tie as tie
+use Rattle.pagetext.proofs.book_page.Statement.{statement}
+use Rattle.pagetext.proofs.book_page.Tie as tie
 
 number-requires : tie.Need-number-requires
 number-requires c κs = search needs

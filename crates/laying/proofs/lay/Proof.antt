@@ -3,11 +3,11 @@ use native.Mathlib.Omega.{arith}
 use mathlib.Core.Path.{_≡_, sym, _∙_}
 use mathlib.Core.List.{List}
 use borrow.Author.Needs.{needs}
 use Rattle.daytext.specs.Lines.{textOf}
 use Rattle.texts.proofs.Laying.{in-turn}
 use Rattle.daytext.proofs.Room.{laid-with-room, kept-with-more-words, kept-with-fewer-bytes}
-use Rattle.daytext.proofs.lay.Statement.{statement}
-use Rattle.daytext.proofs.lay.Tie as tie
+use Rattle.laying.proofs.lay.Statement.{statement}
+use Rattle.laying.proofs.lay.Tie as tie
 
 turned : {r k : ℕ} {b l : List ℕ} → (r ≡ k) × (b ≡ l) → (k ≡ r) × (l ≡ b)
 turned e = (sym (e .0), sym (e .1))

@@ -1,9 +1,9 @@
--- `daytext::lines::body` meets its contract: each arm is the clause of its line.
+-- `laying::body` meets its contract: each arm is the clause of its line.
 use mathlib.Core.List.{append-nil}
 use Rattle.daytext.specs.Lines.{bodyOf}
 use borrow.Author.Needs.{needs}
-use Rattle.daytext.proofs.lines.body.Statement.{statement}
-use Rattle.daytext.proofs.lines.body.Tie as tie
+use Rattle.laying.proofs.body.Statement.{statement}
+use Rattle.laying.proofs.body.Tie as tie
 
 enum-known-line : tie.Need-enum-known-line
 enum-known-line c = search needs

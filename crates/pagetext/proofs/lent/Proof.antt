@@ -1,9 +1,9 @@
--- `daytext::lines::lent` meets its contract.
+-- `pagetext::lent` meets its contract.
 use native.Mathlib.Omega.{arith}
 use Rattle.texts.proofs.Laying.{in-turn}
 use borrow.Author.Needs.{needs}
-use Rattle.daytext.proofs.lines.lent.Statement.{statement}
-use Rattle.daytext.proofs.lines.lent.Tie as tie
+use Rattle.pagetext.proofs.lent.Statement.{statement}
+use Rattle.pagetext.proofs.lent.Tie as tie
 
 number-requires : tie.Need-number-requires
 number-requires c κs = search needs

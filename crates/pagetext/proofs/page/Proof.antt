@@ -1,17 +1,17 @@
--- `daytext::lines::page` meets its contract: the parts, as they are laid, are the text of a page.
+-- `pagetext::page` meets its contract: the parts, as they are laid, are the text of a page.
 use Prim.Native.Nat.{ℕ}
 use native.Mathlib.Omega.{arith}
 use mathlib.Core.Path.{_≡_}
 use mathlib.Core.List.{List, _++_, map, append-assoc}
 use Rattle.daytext.specs.declared.Line.the-variants.{Page}
 use Rattle.texts.specs.Ascii.{ascii}
 use Rattle.texts.specs.Decimal.{decimal}
 use Rattle.texts.specs.Laying.{spaced}
 use Rattle.daytext.specs.Lines.{bodyOf}
 use Rattle.texts.proofs.Laying.{in-turn, laid-as}
 use borrow.Author.Needs.{needs}
-use Rattle.daytext.proofs.lines.page.Statement.{statement}
-use Rattle.daytext.proofs.lines.page.Tie as tie
+use Rattle.pagetext.proofs.page.Statement.{statement}
+use Rattle.pagetext.proofs.page.Tie as tie
 
 -- the parts, as they are laid
 page-text : (e p l i t : ℕ) (ws : List ℕ)
