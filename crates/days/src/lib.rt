@@ -49,7 +49,7 @@ pub fn lent_to(day: Day, x: Request) -> usize
 }
 
 // Nothing is asked: the day stays.
-fn unasked(day: Day) -> Outcome
+pub fn unasked(day: Day) -> Outcome
     ensures { λ o. ⌜ o ≡ unaskedOf day ⌝ }
 {
     Outcome {

@@ -33,6 +33,8 @@ pub enum Refusal {
     CannotArise,
     RoomShort,
     TableShort,
+    NoPage,
+    TooMany,
 }
 
 // The answer to an item. The words of a page lie in the lent page list.
@@ -76,6 +78,8 @@ pub fn number(r: Refusal) -> u32
         Refusal::CannotArise => 11,
         Refusal::RoomShort => 12,
         Refusal::TableShort => 13,
+        Refusal::NoPage => 14,
+        Refusal::TooMany => 15,
     }
 }
 

@@ -1,0 +1,2 @@
+-- What the sums of the code come to.
+pub mod Summed

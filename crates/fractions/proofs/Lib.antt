@@ -1,0 +1,2 @@
+-- What the greatest common divisor is, and lowest terms.
+pub mod Divisors

@@ -1,0 +1,31 @@
+-- The table that a file begins with: words of 0 are blank records.
+use Prim.Native.Nat.{ℕ, zero, suc, _<_}
+use native.Mathlib.Nat.{not-suc-le-zero, le-of-suc-le-suc}
+use mathlib.Core.Path.{_≡_, refl, ap}
+use mathlib.Core.List.{List}
+use lib.ListN.{length, replicate}
+use Rattle.snapshot.specs.Requests.{blankDay}
+use Rattle.unbounded.specs.Processes.{zeroProcess}
+use Rattle.packed.specs.Packing.{unpackRecord}
+use Rattle.days.specs.Happenings.{Box, Happening, blankBox, fileOn, dayOf}
+use Rattle.packed_days.specs.Boxes.{boxIn, LongRows}
+
+abbrev pub blank-words : List (List ℕ)
+blank-words = replicate 8 (replicate 208 0)
+
+same-rows : (k : ℕ) (row : List ℕ) → length row ≡ 208 → LongRows (replicate k row)
+same-rows zero row is i l = absurd (not-suc-le-zero l)
+same-rows (suc k) row is zero l = is
+same-rows (suc k) row is (suc i) l = same-rows k row is i (le-of-suc-le-suc l)
+
+pub blank-rows : LongRows blank-words
+blank-rows = same-rows 8 (replicate 208 0) refl
+
+blank-record : unpackRecord (replicate 208 0) ≡ zeroProcess
+unfolding unpackRecord
+blank-record = refl
+
+pub blank-file : (bytes : List ℕ) → fileOn (boxIn blankDay blank-words (replicate 8 0)) bytes ≡ dayOf bytes
+unfolding dayOf
+blank-file bytes =
+    ap (λ p. fileOn (record { day = blankDay; table = replicate 8 p; page = replicate 8 0 }) bytes) blank-record

@@ -1,0 +1,2 @@
+-- A box whose records lie as words.
+pub mod Boxes
