@@ -9,7 +9,7 @@ use mathlib.Core.List.{List, [], _∷_, _++_}
 use borrow.Author.Tests.{lt-ltb, le-ltb}
 use lib.ListN.{length, getD, length-append, List·getD-append}
 use lib.Seq.{getD-at}
-use Rattle.texts.specs.Decimal.{lastDigit, numeral, decimal, lastDigits, valueAfter, Digit, IsNumeral}
+use Rattle.texts.specs.Decimal.{lastDigit, numeral, decimal, longDecimal, lastDigits, valueAfter, Digit, IsNumeral}
 
 -- ---- the two cases of a numeral
 
@@ -40,6 +40,15 @@ pub decimal-places : (j n : ℕ) → j ≤ 9 → 10 ^ j ≤ n → n < 10 ^ suc j
 unfolding decimal
 decimal-places j n l g h = numeral-places 9 j n l g h
 
+-- and so where it has up to twenty
+pub long-digit : (n : ℕ) → n < 10 → longDecimal n ≡ lastDigits 1 n
+unfolding longDecimal
+long-digit n h = numeral-digit 19 n h
+
+pub long-places : (j n : ℕ) → j ≤ 19 → 10 ^ j ≤ n → n < 10 ^ suc j → longDecimal n ≡ lastDigits (suc j) n
+unfolding longDecimal
+long-places j n l g h = numeral-places 19 j n l g h
+
 pub length-last-digits : (k n : ℕ) → length (lastDigits k n) ≡ k
 length-last-digits zero n = refl
 length-last-digits (suc k) n =
@@ -58,6 +67,10 @@ numeral-short (suc k) n =
 pub decimal-short : (n : ℕ) → length (decimal n) ≤ 10
 unfolding decimal
 decimal-short n = numeral-short 9 n
+
+pub long-short : (n : ℕ) → length (longDecimal n) ≤ 20
+unfolding longDecimal
+long-short n = numeral-short 19 n
 
 -- ---- its value
 
@@ -111,3 +124,7 @@ numeral-is (suc k) n h =
 pub decimal-is-numeral : (n : ℕ) → n < 2 ^ 32 → IsNumeral n (decimal n)
 unfolding decimal
 decimal-is-numeral n h = numeral-is 9 n (omega arith)
+
+pub long-decimal-is-numeral : (n : ℕ) → n < 2 ^ 64 → IsNumeral n (longDecimal n)
+unfolding longDecimal
+long-decimal-is-numeral n h = numeral-is 19 n (omega arith)

@@ -21,6 +21,10 @@ numeral (suc k) n =
 unfoldable pub decimal : ℕ → List ℕ
 decimal n = numeral 9 n
 
+-- and twenty below 2 ^ 64
+unfoldable pub longDecimal : ℕ → List ℕ
+longDecimal n = numeral 19 n
+
 -- the last k digits of n, with zeros in front where n has fewer
 abbrev pub lastDigits : ℕ → ℕ → List ℕ
 lastDigits zero n = []

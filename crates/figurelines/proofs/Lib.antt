@@ -1,0 +1,3 @@
+-- The numerals and the texts of the line.
+pub mod Digits
+pub mod Texts

@@ -1,0 +1,2 @@
+-- The line of a quarter's figures.
+pub mod FigureText
