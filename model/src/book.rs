@@ -5,7 +5,7 @@ use crate::dayfile::Record;
 use crate::register::{Refusal, Task, Turn};
 use crate::runner::{self, Done, Register};
 
-/// A longer day file gets no book. The papers set no limit; docs/DECISIONS.md does.
+/// A longer day file gets no book, and no figures. The papers set no limit; docs/DECISIONS.md does.
 pub const MOST_BYTES: usize = 2_097_152;
 
 /// An accepted call, with its word if it is an entry.

@@ -4,10 +4,12 @@
 mod closing;
 mod full;
 mod lending;
+mod quarter;
 
 pub use closing::{closing_day, last_day};
 pub use full::{between_refused, full_day, long_file, pages_day, refused_records};
 pub use lending::{latest_day, lending_day};
+pub use quarter::{pages_of_one, quarter};
 
 use crate::dayfile::{self, Record};
 use crate::random::Random;

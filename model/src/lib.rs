@@ -1,7 +1,8 @@
 //! A model of the register, written from documents 01 and 02 and Figure 3 alone, in the plainest way
 //! (`register`, `dayfile`, `runner`, `runs` for turns that are given at once, and `closing` for the
-//! end of the day), and of the day's book, from document 02 and Figure 1 (`book`, `claims`,
-//! `automaton`). It is the other side of the comparison with the proved register.
+//! end of the day), of the day's book, from document 02 and Figure 1 (`book`, `claims`,
+//! `automaton`), and of the figures for the quarter, from document 02 (`figures`). It is the other
+//! side of the comparison with the proved register.
 //! `baseline` is a fast day runner, which is held to the model and measures speed alone.
 
 pub mod automaton;
@@ -14,8 +15,11 @@ pub mod comparison;
 pub mod counts;
 pub mod dayfile;
 pub mod days;
+pub mod figure_counts;
+pub mod figures;
 pub mod papers;
 pub mod program;
+pub mod quarters;
 pub mod random;
 pub mod register;
 pub mod runner;

@@ -1,6 +1,8 @@
 //! The days that document 01 gives to check by hand, with what it states about them, and their books
 //! by document 02, worked out by hand. Day I has 65,535 events and is made by `days::last_day`.
 
+use crate::text;
+
 pub struct Case {
     pub name: &'static str,
     /// In the lines of `text`.
@@ -85,6 +87,12 @@ pub const ENDINGS: [(&str, &str); 4] = [
     ("raw 04 00 09 00 01 00", "refused 8\nend 0\n"),
     ("raw 04 00 02 00 01 00", "refused 9\nend 0\n"),
 ];
+
+/// The day file of a case.
+pub fn day(name: &str) -> Vec<u8> {
+    let case = CASES.iter().find(|case| case.name == name).expect("a day of document 01");
+    text::to_bytes(case.day).expect("good lines")
+}
 
 /// The first stated line that a printout lacks. For A the printout must be the lines alone.
 pub fn missing(case: &Case, printed: &str) -> Option<&'static str> {

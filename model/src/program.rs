@@ -181,7 +181,11 @@ impl Drop for Program {
 }
 
 /// Gives a file in pieces of `count` bytes.
-fn slowly(command: &mut Command, file: &[u8], count: usize) -> Result<Output, Box<dyn Error>> {
+pub(crate) fn slowly(
+    command: &mut Command,
+    file: &[u8],
+    count: usize,
+) -> Result<Output, Box<dyn Error>> {
     let mut child = command.spawn()?;
     let mut pipe = child.stdin.take().ok_or("no pipe")?;
     thread::scope(|scope| {

@@ -17,7 +17,7 @@ pub fn most_reads(n: u32) -> u32 {
 /// "Reasons to refuse": the numbers of the table and their causes.
 #[derive(Clone, Copy, Debug, PartialEq, Eq)]
 pub enum Refusal {
-    /// "opening with a desk count outside 1 to 8"
+    /// "opening with a desk count outside 1 to 8", "when the desk count asked for is outside 1 to 8"
     DeskCount = 1,
     /// "desk number outside 1 to n"
     NoSuchDesk = 2,
@@ -44,6 +44,10 @@ pub enum Refusal {
     /// "when the answer table has fewer places than turns, or the page table fewer than n words for
     /// each turn"
     TableShort = 13,
+    /// "when that desk count has no page"
+    NoPage = 14,
+    /// "when more than 65,535 answers are given"
+    TooManyAnswers = 15,
 }
 
 /// "*view* (n words)", and "a view eight words; those past n are touched only by an opening".

@@ -24,7 +24,7 @@ pub fn latest_day(n: u16) -> Vec<u8> {
 }
 
 impl Draft {
-    fn lending(&mut self) {
+    pub(super) fn lending(&mut self) {
         let mut others: Vec<u16> = (1..=self.n()).collect();
         self.random.shuffle(&mut others);
         let Some(lender) = others.pop() else { return };
