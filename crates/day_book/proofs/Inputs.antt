@@ -5,7 +5,7 @@ use mathlib.Core.Path.{_≡_, refl, ap, ap₂, _∙_}
 use mathlib.Core.Bool.{Bool, true, false, cond}
 use mathlib.Core.List.{List, [], _++_, map}
 use lib.Dec.{ltb}
-use lib.ListN.{length, take, drop, length-append}
+use lib.ListN.{length, drop}
 use borrow.Author.Tests.{ltb-false}
 use Rattle.snapshot.specs.Book.{Operation}
 use Rattle.snapshot.specs.declared.Refusal.{Refusal}
@@ -16,21 +16,11 @@ use Rattle.book.specs.DayBooks.{processesIn, bookIn}
 use Rattle.book.specs.Places.{placeOf, bookingOf, bookWith}
 use Rattle.book.proofs.DayFollows.{processes-few}
 use Rattle.book.proofs.BookWords.{book-words}
-use Rattle.texts.specs.Laying.{withText, Laid}
-use Rattle.texts.proofs.Laying.{take-laid}
 use Rattle.booklines.specs.BookText.{bookText}
 use Rattle.booklines.specs.PlaceText.{laidBook}
 use Rattle.booklines.proofs.Operations.{laid-book-text}
 use Rattle.streams.specs.Input.{Incoming}
 use Rattle.day_book.specs.Runs.{LinesFit, bookOf, writtenOf}
-
--- what lies at the start of a buffer once it is laid there
-pub laid-start : {out text after : List ℕ} {r : ℕ} → Laid out 0 text after r → (take r after ≡ text) × (r ≤ length after)
-unfolding withText
-laid-start {out} {text} l =
-    let long = ap length (l .buffer) ∙ length-append text (drop (0 + length text) out) in
-    let end = l .end in
-    (ap₂ take (l .end) (l .buffer) ∙ take-laid out 0 text (omega arith), omega (arith, long, end))
 
 -- the book of a day file, as its places are lent
 module _ (file : List ℕ) (places : List (List ℕ)) where

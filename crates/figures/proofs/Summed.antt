@@ -115,7 +115,7 @@ module _ (n : ℕ) (s : Sums) (xs : List PageAnswer) (is : s ≡ sumsFrom n noSu
 
 module _ (n : ℕ) (xs : List PageAnswer) where
   -- where it is known of each cause whether it holds: the two of 1, then 15 and 14
-  abbrev by-causes : (low high many none : Bool) → Reckoning
+  abbrev pub by-causes : (low high many none : Bool) → Reckoning
   by-causes low high many none =
       reckonedBy (answersFor n xs) (firstCause ((low || high, CountRange) ∷ (many, TooMany) ∷ (none, NoPage) ∷ []))
 

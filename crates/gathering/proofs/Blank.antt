@@ -8,7 +8,8 @@ use Rattle.snapshot.specs.Requests.{blankDay}
 use Rattle.unbounded.specs.Processes.{zeroProcess}
 use Rattle.packed.specs.Packing.{unpackRecord}
 use Rattle.days.specs.Happenings.{Box, Happening, blankBox, fileOn, dayOf}
-use Rattle.packed_days.specs.Boxes.{boxIn, LongRows}
+use Rattle.packed_rows.specs.Rows.{LongRows}
+use Rattle.packed_days.specs.Boxes.{boxIn}
 
 abbrev pub blank-words : List (List ℕ)
 blank-words = replicate 8 (replicate 208 0)

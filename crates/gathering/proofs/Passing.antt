@@ -40,7 +40,7 @@ endsFrom s t page bytes = cond (s .ended) (s .refusal) (endedBy (restOf s t page
 abbrev pub lapsLeft : Progress → ℕ → ℕ
 lapsLeft s length = cond (s .ended) 0 (suc (length - s .at))
 
-with-both : (g : Gathered) (xs ys : List PageAnswer) → withAll g (xs ++ ys) ≡ withAll (withAll g xs) ys
+pub with-both : (g : Gathered) (xs ys : List PageAnswer) → withAll g (xs ++ ys) ≡ withAll (withAll g xs) ys
 with-both g [] ys = refl
 with-both g (a ∷ xs) ys = with-both _ xs ys
 

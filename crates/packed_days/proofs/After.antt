@@ -22,12 +22,13 @@ use Rattle.unbounded.specs.declared.Process.{Process}
 use Rattle.unbounded.specs.Days.{stepped}
 use Rattle.memory.specs.Tables.{stateOf, outcomeOf}
 use Rattle.packed.specs.Packing.{unpackRecord}
-use Rattle.packed_table.specs.Tables.{unpackedAll, tableAfter, steppedIn}
+use Rattle.packed_rows.specs.Rows.{unpackedAll, LongRows}
+use Rattle.packed_table.specs.Tables.{tableAfter, steppedIn}
 use Rattle.packed_table.proofs.Chained.{unpacked-after, long-after}
 use Rattle.days.specs.Asking.{isNone, requestOf, lentTo, unaskedOf}
 use Rattle.days.specs.Happenings.{Box, boxAfter, outcomeIn}
 use Rattle.days.proofs.Boxes.{unread-stays}
-use Rattle.packed_days.specs.Boxes.{boxIn, LongRows, IsAfter}
+use Rattle.packed_days.specs.Boxes.{boxIn, IsAfter}
 
 -- ---- the records that some of the words are
 

@@ -1,21 +1,16 @@
 -- A day's box (days/specs/Happenings) whose records lie as words.
-use Prim.Native.Nat.{ℕ, _<_}
+use Prim.Native.Nat.{ℕ}
 use mathlib.Core.Path.{_≡_}
-use mathlib.Core.List.{List, []}
-use lib.ListN.{length, getD}
+use mathlib.Core.List.{List}
 use Rattle.snapshot.specs.declared.Day.{Day}
 use Rattle.snapshot.specs.declared.Outcome.{Outcome}
 use Rattle.dayfile.specs.declared.Reading.{Reading}
 use Rattle.days.specs.Happenings.{Box, boxAfter}
-use Rattle.packed_table.specs.Tables.{unpackedAll}
+use Rattle.packed_rows.specs.Rows.{unpackedAll, LongRows}
 
 -- the box: a day, the records that the words are, and a page list
 abbrev pub boxIn : Day → (table : List (List ℕ)) → (page : List ℕ) → Box
 boxIn d t page = record { day = d; table = unpackedAll t; page = page }
-
--- every record of the table has its 208 words
-abbrev pub LongRows : List (List ℕ) → Type 0
-LongRows t = (i : ℕ) → i < length t → length (getD t i []) ≡ 208
 
 -- what was read has happened: the words and the page list are those of the box after it, and each record has its words again
 pub record IsAfter (x : Reading) (before : Box) (d : Day) (table : List (List ℕ)) (page : List ℕ) : Type 0 where

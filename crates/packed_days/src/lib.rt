@@ -6,7 +6,8 @@ use snapshot::Outcome;
 ghost use mathlib.Core.Path.{_≡_};
 ghost use lib.ListN.{length};
 ghost use Rattle.days.specs.Happenings.{outcomeIn};
-ghost use Rattle.packed_days.specs.Boxes.{boxIn, LongRows, IsAfter};
+ghost use Rattle.packed_days.specs.Boxes.{boxIn, IsAfter};
+ghost use Rattle.packed_rows.specs.Rows.{LongRows};
 
 // What was read is asked of the table; where no record was found, nothing.
 pub fn asked(day: Day, t: &mut [[u32; 208]], x: Reading, page: &mut [u32]) -> Outcome

@@ -1,7 +1,8 @@
 -- A table of packed records, and what an accepted request leaves of it.
-use Prim.Native.Nat.{ℕ, _-_}
+use Prim.Native.Nat.{ℕ, _-_, _<_}
+use mathlib.Core.Path.{_≡_}
 use mathlib.Core.List.{List, [], map}
-use lib.ListN.{getD, set}
+use lib.ListN.{length, getD, set}
 use Rattle.snapshot.specs.declared.Request.{Request}
 use Rattle.snapshot.specs.declared.Request.the-variants.{Open, Update, Scan, Turn}
 use Rattle.unbounded.specs.declared.Process.{Process}
@@ -14,6 +15,10 @@ unpackedAll t = map unpackRecord t
 
 abbrev pub recordAt : List (List ℕ) → ℕ → Process
 recordAt t i = unpackRecord (getD t i [])
+
+-- every record has its 208 words, as it is where rows of that length are lent
+abbrev pub LongRows : List (List ℕ) → Type 0
+LongRows t = (i : ℕ) → i < length t → length (getD t i []) ≡ 208
 
 -- the words once record i is p
 abbrev pub packedAt : List (List ℕ) → ℕ → Process → List (List ℕ)

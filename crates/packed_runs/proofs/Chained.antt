@@ -15,10 +15,10 @@ use Rattle.unbounded.specs.declared.Process.{Process}
 use Rattle.unbounded.specs.Registers.{ascending}
 use Rattle.unbounded.specs.Days.{figure3}
 use Rattle.memory.specs.Tables.{stateOf}
-use Rattle.packed_rows.specs.Rows.{unpackedAll}
+use Rattle.packed_rows.specs.Rows.{unpackedAll, LongRows}
 use Rattle.packed_rows.proofs.Rows.{records-long}
 use Rattle.packed_table.specs.Tables.{tableAfter, steppedIn}
-use Rattle.packed_table.proofs.Chained.{LongRows, unpacked-after, long-after}
+use Rattle.packed_table.proofs.Chained.{unpacked-after, long-after}
 use Rattle.packed_runs.specs.Runs.{giveIn, toldIn, runIn}
 
 -- a run's result with the records that its words are

@@ -40,17 +40,13 @@ use Rattle.unbounded.proofs.Demand3.{ascending-permutes}
 use Rattle.memory.specs.Tables.{stateOf, refusalIn, acceptedIn}
 use Rattle.memory.proofs.Accepted.{stepped-accepted, admits, admits-inside}
 use Rattle.packed.specs.Packing.{packRecord, packedOver, unpackRecord}
-use Rattle.packed_rows.specs.Rows.{unpackedAll, packedAt, packedBy}
+use Rattle.packed_rows.specs.Rows.{unpackedAll, LongRows, packedAt, packedBy}
 use Rattle.packed_table.specs.Tables.{isRefused, tableAfter, steppedIn}
 use Rattle.packed.proofs.Words.{sets-all}
 use Rattle.packed.proofs.Packing.{Eights, packed-long, unpack-packed, unpack-whole}
 use Rattle.packed_rows.proofs.Rows.{records-long, record-is, zero-words}
 use Rattle.packed_accepted.proofs.Stored.{stored-packed}
 use Rattle.packed_table.proofs.Requests.{after-accepted, turn-accepted}
-
--- every row of a table has its 208 words
-abbrev pub LongRows : List (List ℕ) → Type 0
-LongRows t = (i : ℕ) → i < length t → length (getD t i []) ≡ 208
 
 -- ---- records unpacked from any words
 

@@ -29,15 +29,15 @@ fn shift(bytes: &mut [u8], at: usize, n: usize)
     }
 }
 
-// One read into the bytes from `to` on, of which there is at least one, so that a read that gives nothing is the end of the input;
-// `what` begins the message of one that fails.
-fn read_at(bytes: &mut [u8], to: usize, what: &[u8]) -> Transfer
+// One read of a file into the bytes from `to` on, of which there is at least one, so that a read that gives nothing is the end of the
+// file; `what` begins the message of one that fails.
+fn read_at(file: i32, bytes: &mut [u8], to: usize, what: &[u8]) -> Transfer
     requires { ⌜ to < length (now bytes) ⌝ }
     ensures { λ t. ⌜ AtMost (length (now (bytes .entry)) - to) t ⌝ }
     ensures { λ _. ⌜ take to (now (bytes .exit)) ≡ take to (now (bytes .entry)) ⌝ }
 {
     let room = &mut bytes[to..];
-    let got = libc::read(STDIN_FILENO, room);
+    let got = libc::read(file, room);
     system::meaning(got, room, what)
 }
 
@@ -68,7 +68,7 @@ fn input_by(kept: usize, t: Transfer) -> Input
     }
 }
 
-// What is left moves to the front, and one read fills up the rest; `what` begins the message of one that fails.
+// What is left moves to the front, and one read of standard input fills up the rest; `what` begins the message of one that fails.
 pub fn refill(bytes: &mut [u8], from: Input, what: &[u8]) -> Input
     requires { ⌜ Within from (length (now bytes)) × (from .end - from .at < length (now bytes)) ⌝ }
     ensures { λ i. ⌜ Within i (length (now (bytes .exit))) × IsRefill from (now (bytes .entry)) i (now (bytes .exit)) ⌝ }
@@ -76,13 +76,13 @@ pub fn refill(bytes: &mut [u8], from: Input, what: &[u8]) -> Input
     let at = from.at;
     let kept = from.end - at;
     shift(bytes, at, kept);
-    let t = read_at(bytes, kept, what);
+    let t = read_at(STDIN_FILENO, bytes, kept, what);
     input_by(kept, t)
 }
 
-// Reads until the input ends, a read fails, or the buffer is full; `what` begins the message of a read that fails. A read that was
+// Reads a file until it ends, a read fails, or the buffer is full; `what` begins the message of a read that fails. A read that was
 // interrupted is made again; nothing says how often that can be, so the loop counts its reads down from a number that none uses up.
-pub fn whole(bytes: &mut [u8], what: &[u8]) -> Input
+pub fn whole(file: i32, bytes: &mut [u8], what: &[u8]) -> Input
     ensures { λ i. ⌜ IsWhole i (now (bytes .exit)) ⌝ }
 {
     let mut input = Input {
@@ -94,7 +94,7 @@ pub fn whole(bytes: &mut [u8], what: &[u8]) -> Input
     let mut reads = u64::MAX;
     while !input.last && input.end < bytes.len() && reads > 0 {
         let end = input.end;
-        let t = read_at(bytes, end, what);
+        let t = read_at(file, bytes, end, what);
         input = input_by(end, t);
         reads -= 1;
     }

@@ -68,3 +68,11 @@ in-turn {out} {at} {s} {t = t} h one two =
 
 pub laid-as : {out : List ℕ} {at : ℕ} {s t after : List ℕ} {r : ℕ} → s ≡ t → Laid out at s after r → Laid out at t after r
 laid-as e l = rw e at l
+
+-- what lies at the start of a buffer once it is laid there
+pub laid-start : {out text after : List ℕ} {r : ℕ} → Laid out 0 text after r → (take r after ≡ text) × (r ≤ length after)
+unfolding withText
+laid-start {out} {text} l =
+    let long = ap length (l .buffer) ∙ length-append text (drop (0 + length text) out) in
+    let end = l .end in
+    (ap₂ take (l .end) (l .buffer) ∙ take-laid out 0 text (omega arith), omega (arith, long, end))

@@ -2,7 +2,7 @@
 use native.Mathlib.Omega.{arith}
 use mathlib.Core.Path.{subst}
 use Rattle.streams.specs.System.{IsSent}
-use Rattle.day_book.proofs.Inputs.{laid-start}
+use Rattle.texts.proofs.Laying.{laid-start}
 use borrow.Author.Needs.{needs}
 use Rattle.day_book.proofs.run.Statement.{statement}
 use Rattle.day_book.proofs.run.Tie as tie

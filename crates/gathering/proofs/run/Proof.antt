@@ -7,7 +7,8 @@ use borrow.Author.Needs.{needs}
 use borrow.Author.Tests.{not-true, not-false}
 use Rattle.snapshot.specs.Requests.{blankDay}
 use Rattle.days.specs.Happenings.{fileOn}
-use Rattle.packed_days.specs.Boxes.{boxIn, LongRows}
+use Rattle.packed_rows.specs.Rows.{LongRows}
+use Rattle.packed_days.specs.Boxes.{boxIn}
 use Rattle.gathering.specs.Answers.{answersIn, endedBy}
 use Rattle.gathering.specs.Gathered.{withAll}
 use Rattle.gathering.specs.Laps.{gathered}

@@ -27,9 +27,9 @@ returns c =
     let within = c .before .before .before .before .before .before .before .before .before .before .before .before .pre .0 in
     let read = c .before .before .before .read-at in
     let moved = c .before .before .before .before .before .before .before .shift in
-    let long = read .kept .0 ∙ moved .kept .0 in
-    refill-is (a .from) (a .bytes .now) (read .last .0) within long
-    (kept-is (a .from) (a .bytes .now) (read .last .0) within long (moved .last .0) (moved .ensures) (read .ensures .1))
+    let long = read .kept .1 .0 ∙ moved .kept .0 in
+    refill-is (a .from) (a .bytes .now) (read .last .1 .0) within long
+    (kept-is (a .from) (a .bytes .now) (read .last .1 .0) within long (moved .last .0) (moved .ensures) (read .ensures .1))
     (read .result) (at-most-le _ _ (search needs) (read .result) (read .ensures .0)) (c .input-by .result) (c .input-by .ensures)
 
 pub refill-spec : {M : Type 1} → statement M

@@ -11,10 +11,10 @@ use Rattle.streams.proofs.input.whole.Statement.{statement}
 use Rattle.streams.proofs.input.whole.Tie as tie
 
 abbrev Inv-loop : tie.InvT-loop
-Inv-loop bytes₀ what input₀ reads₀ bytes input reads = (length bytes ≡ length bytes₀) × Coming input bytes reads
+Inv-loop file bytes₀ what input₀ reads₀ bytes input reads = (length bytes ≡ length bytes₀) × Coming input bytes reads
 
 abbrev μ-loop : tie.MeasureT-loop
-μ-loop bytes₀ what input₀ reads₀ bytes input reads = reads
+μ-loop file bytes₀ what input₀ reads₀ bytes input reads = reads
 
 loop-holds : tie.Need-loop-holds Inv-loop μ-loop
 loop-holds c = (refl, none-came _)
@@ -45,10 +45,10 @@ loop-again c =
     let at-if1 = at-if2 .before .before in
     let l = at-if1 .before .before .loop in
     let read = at-read .read-at in (
-      read .kept .0 ∙ l .inv .0,
+      read .kept .1 .0 ∙ l .inv .0,
       one-more (l .input) (l .bytes) (l .reads) (l .inv .1)
           (not-true _ (at-if1 .if1 .taken)) (ltb-true _ _ (at-if2 .if2 .taken)) (ltb-true 0 (l .reads) (at-if3 .if3 .taken))
-          (read .last .0) (read .kept .0) (read .ensures .1) (read .result) (read .ensures .0)
+          (read .last .1 .0) (read .kept .1 .0) (read .ensures .1) (read .result) (read .ensures .0)
           (c .input-by .result) (c .input-by .ensures),
     )
 

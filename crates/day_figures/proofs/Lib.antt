@@ -1,0 +1,3 @@
+-- What the program gathers of its files, and what it writes.
+pub mod Quarters
+pub mod Digits

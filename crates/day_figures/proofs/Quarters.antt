@@ -1,0 +1,129 @@
+-- What is gathered of days that are read one after the other.
+use Prim.Native.Nat.{ℕ, _+_, _≤_, _<_}
+use native.Mathlib.Omega.{arith}
+use mathlib.Core.Path.{_≡_, refl, sym, ap, _∙_, subst}
+use mathlib.Core.Bool.{Bool, true, false, cond, not, _&&_, true≢false}
+use mathlib.Core.List.{List, [], _∷_, _++_, map, append-assoc, append-nil}
+use lib.ListN.{length, take, length-append}
+use Rattle.snapshot.proofs.Booleans.{and-both}
+use Rattle.figures.specs.Figures.{answerIn, reckoned}
+use Rattle.figures.proofs.Claims.{first-enough}
+use Rattle.days.specs.Happenings.{dayOf}
+use Rattle.gathering.specs.Answers.{answersIn, quarterOf}
+use Rattle.gathering.specs.Gathered.{Gathered, withAll}
+use Rattle.gathering.specs.Laps.{gathered}
+use Rattle.gathering.proofs.Passing.{with-both}
+use Rattle.gathering.proofs.Kept.{heldIn, Holds, with-all}
+use Rattle.figurelines.specs.FigureText.{reckoningText}
+use Rattle.streams.specs.Input.{Incoming}
+use Rattle.day_figures.specs.declared.Quarter.{Quarter}
+use Rattle.day_figures.specs.Runs.{IsTried, AllDays, isWhole, allWhole, answersOf, IsQuarter, IsAdded, IsDayAdded, AreRead, lineOf, writtenOf}
+
+-- a file that could not be opened
+pub unopened : (bytes : List ℕ) → IsTried (record { at = 0; end = 0; last = true; failed = true }) bytes
+unopened bytes =
+    record {
+      within = record { start = omega arith; stop = omega arith };
+      front = refl;
+      read = λ good. absurd (true≢false good);
+    }
+
+-- ---- one day
+
+module _ (d : Incoming) (q : Quarter) (rows : List (List ℕ)) where
+  -- one that did not come whole
+  pub day-lost : isWhole d ≡ false → IsAdded d q rows (record { count = q .count; whole = false }) rows
+  day-lost lost =
+      record { whole = sym (ap (λ b. b && q .whole) lost); held = λ whole. absurd (true≢false (sym whole ∙ lost)) }
+
+  -- one that did
+  pub day-gathered : isWhole d ≡ true → (rows′ : List (List ℕ)) (count : ℕ) →
+      gathered rows′ count ≡ withAll (gathered rows (q .count)) (answersIn (dayOf (d .left))) →
+      IsAdded d q rows (record { count = count; whole = q .whole }) rows′
+  day-gathered whole rows′ count is = record { whole = sym (ap (λ b. b && q .whole) whole); held = λ w. is }
+
+-- ---- one day more
+
+quarter-more : (fs : List (List ℕ)) (f : List ℕ) → quarterOf (fs ++ (f ∷ [])) ≡ quarterOf fs ++ answersIn (dayOf f)
+quarter-more [] f = append-nil (answersIn (dayOf f))
+quarter-more (g ∷ fs) f =
+    ap (λ xs. answersIn (dayOf g) ++ xs) (quarter-more fs f) ∙ sym (append-assoc (answersIn (dayOf g)) (quarterOf fs) (answersIn (dayOf f)))
+
+files-more : (ds : List Incoming) (d : Incoming) → map (λ d. d .left) (ds ++ (d ∷ [])) ≡ map (λ d. d .left) ds ++ (d .left ∷ [])
+files-more [] d = refl
+files-more (e ∷ ds) d = ap {B = List (List ℕ)} (λ fs. e .left ∷ fs) (files-more ds d)
+
+answers-more : (ds : List Incoming) (d : Incoming) → answersOf (ds ++ (d ∷ [])) ≡ answersOf ds ++ answersIn (dayOf (d .left))
+answers-more ds d = ap quarterOf (files-more ds d) ∙ quarter-more (map (λ d. d .left) ds) (d .left)
+
+whole-more : (ds : List Incoming) (d : Incoming) → allWhole (ds ++ (d ∷ [])) ≡ isWhole d && allWhole ds
+whole-more [] d = refl
+whole-more (e ∷ ds) d = ap (λ b. isWhole e && b) (whole-more ds d) ∙ exchanged (isWhole e) (isWhole d) (allWhole ds)
+  where
+    exchanged : (a b c : Bool) → (a && (b && c)) ≡ (b && (a && c))
+    exchanged true b c = refl
+    exchanged false true c = refl
+    exchanged false false c = refl
+
+tried-more : (size : ℕ) (ds : List Incoming) (d : Incoming) → AllDays size ds → AllDays size (d ∷ []) → AllDays size (ds ++ (d ∷ []))
+tried-more size [] d all more = more
+tried-more size (e ∷ ds) d all more = (all .0, tried-more size ds d (all .1) more)
+
+-- no day
+pub none-read : (size : ℕ) (rows : List (List ℕ)) → AreRead 0 size rows rows (record { count = 0; whole = true })
+none-read size rows =
+    record { days = []; each = refl; tried = tt; quarter = record { whole = refl; held = λ w. refl } }
+
+pub one-more : (files size : ℕ) (before rows : List (List ℕ)) (q : Quarter) (rows′ : List (List ℕ)) (q′ : Quarter) →
+    AreRead files size before rows q → IsDayAdded size q rows q′ rows′ → AreRead (files + 1) size before rows′ q′
+one-more files size before rows q rows′ q′ are more =
+    record {
+      days = ds′;
+      each = length-append ds (d ∷ []) ∙ ap (λ k. k + 1) (are .each);
+      tried = tried-more size ds d (are .tried) (more .tried, tt);
+      quarter = record { whole = more .added .whole ∙ ap (λ b. isWhole d && b) (are .quarter .whole) ∙ sym (whole-more ds d); held = held };
+    }
+  where
+    ds : List Incoming
+    ds = are .days
+
+    d : Incoming
+    d = more .day
+
+    ds′ : List Incoming
+    ds′ = ds ++ (d ∷ [])
+
+    held : allWhole ds′ ≡ true → gathered rows′ (q′ .count) ≡ withAll (gathered before 0) (answersOf ds′)
+    held all =
+        let both = and-both (isWhole d) (allWhole ds) (sym (whole-more ds d) ∙ all) in
+        more .added .held (both .0)
+        ∙ ap (λ g. withAll g (answersIn (dayOf (d .left)))) (are .quarter .held (both .1))
+        ∙ sym (with-both (gathered before 0) (answersOf ds) (answersIn (dayOf (d .left))))
+        ∙ ap (withAll (gathered before 0)) (sym (answers-more ds d))
+
+-- ---- what is laid of them
+
+module _ (desks : ℕ) (ds : List Incoming) (before rows : List (List ℕ)) (q : Quarter) (is : IsQuarter ds before rows q)
+    (room : 65535 < length before) where
+  -- before any answer
+  abbrev empty : Gathered
+  empty = gathered before 0
+
+  gathers : Holds empty (withAll empty (answersOf ds)) (answersOf ds)
+  gathers = with-all empty (answersOf ds) (omega arith)
+
+  pub quarter-fits : q .whole ≡ true → q .count ≤ length rows
+  quarter-fits whole =
+      subst (λ g. g .count ≤ length (g .rows)) (sym (is .held (sym (is .whole) ∙ whole))) (gathers .few)
+
+  pub line-is : lineOf desks rows q ≡ writtenOf desks ds
+  line-is = ap (λ w. cond w line []) (is .whole) ∙ go (allWhole ds) refl
+    where
+      line : List ℕ
+      line = reckoningText desks (reckoned desks (map answerIn (take (q .count) rows)))
+
+      go : (b : Bool) → allWhole ds ≡ b → cond b line [] ≡ cond b (reckoningText desks (reckoned desks (answersOf ds))) []
+      go true whole =
+          ap (λ xs. reckoningText desks (reckoned desks xs)) (ap heldIn (is .held whole) ∙ gathers .holds)
+          ∙ ap (reckoningText desks) (first-enough desks (length before) (answersOf ds) room)
+      go false lost = refl
