@@ -70,11 +70,7 @@ fn run(bytes: &mut [u8], places: &mut [[u32; 11]], out: &mut [u8]) -> bool
     requires { ⌜ LinesFit (length (now places)) (length (now out)) ⌝ }
     ensures { λ went. ⌜ IsBookRun (length (now (places .entry))) (now (bytes .exit)) (now (out .entry)) (now (out .exit)) went ⌝ }
 {
-    let input = input::whole(
-        STDIN_FILENO,
-        bytes,
-        b"day_book: cannot read standard input",
-    );
+    let input = input::whole(STDIN_FILENO, bytes, b"day_book: cannot read standard input");
     let n = lay_input(input, bytes, places, out);
     output::write_out(out, n, b"day_book: cannot write standard output")
 }

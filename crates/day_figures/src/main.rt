@@ -25,6 +25,9 @@ const ANSWERS: usize = 65536;
 // Room for the line: daytext's LONGEST.
 const OUTPUT: usize = 256;
 
+// The bytes of the longest argument that Linux takes.
+const WORD: usize = 131072;
+
 // A label, with a name of 4,096 bytes, which no file has.
 const LABEL: usize = 4121;
 
@@ -162,14 +165,11 @@ fn start(desks: u32, n: usize)
     run(desks, n, &mut label, &mut bytes, &mut answers, &mut out);
 }
 
-fn main() {
-    let n = os::arg_count();
-    if n < 2 {
-        messages::usage();
-        return;
-    }
-    let mut word = io::buffer();
-    let k = os::arg(1, &mut word);
+// Reads the desk count, which is the first of n arguments, and starts the run with it.
+fn begin(n: usize, word: &mut [u8])
+    requires { ⌜ 2 ≤ n ⌝ }
+{
+    let k = os::arg(1, word);
     if os::errno() != 0 {
         messages::long_number();
         return;
@@ -178,4 +178,14 @@ fn main() {
         Word::Number(desks) => start(desks, n),
         Word::Other => messages::no_number(&word[..k]),
     }
+}
+
+fn main() {
+    let n = os::arg_count();
+    if n < 2 {
+        messages::usage();
+        return;
+    }
+    let mut word = [0u8; WORD];
+    begin(n, &mut word);
 }

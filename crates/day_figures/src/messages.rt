@@ -65,6 +65,6 @@ pub fn no_number(word: &[u8]) {
 pub fn long_number() {
     io::write_all(
         STDERR_FILENO,
-        b"day_figures: the desk count has more than 4096 digits\n",
+        b"day_figures: the desk count has more than 131072 digits\n",
     );
 }

@@ -60,21 +60,21 @@ abbrev pages : List PageAnswer
 pages = answer 2 2 8 ∷ answer 2 0 4 ∷ answer 3 1 18 ∷ answer 2 0 8 ∷ answer 2 1 8 ∷ answer 2 0 4 ∷ []
 
 pub example : reckoned 2 pages ≡ Given (record {
-      pages = 5;
-      mean = record { numerator = 32; denominator = 5 };
-      borrowed = record { numerator = 2; denominator = 5 };
-      largest = 8;
-    })
+  pages = 5;
+  mean = record { numerator = 32; denominator = 5 };
+  borrowed = record { numerator = 2; denominator = 5 };
+  largest = 8;
+})
 unfolding reckoned lowestTerms greatestDivisor
 example = refl
 
 -- a whole number is over 1, and a share of none is 0 over 1
 pub whole-number : reckoned 1 (answer 1 0 2 ∷ answer 1 0 2 ∷ []) ≡ Given (record {
-      pages = 2;
-      mean = record { numerator = 2; denominator = 1 };
-      borrowed = record { numerator = 0; denominator = 1 };
-      largest = 2;
-    })
+  pages = 2;
+  mean = record { numerator = 2; denominator = 1 };
+  borrowed = record { numerator = 0; denominator = 1 };
+  largest = 2;
+})
 unfolding reckoned lowestTerms greatestDivisor
 whole-number = refl
 

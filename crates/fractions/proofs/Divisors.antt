@@ -121,8 +121,8 @@ module _ (a b : ℕ) (some : 1 ≤ b) where
         same = ap (λ k. a / g * k) (sym bottom) ∙ sym (mul-assoc (a / g) (b / g) g) ∙ mul-right-comm (a / g) (b / g) g ∙ ap (λ k. k * (b / g)) top;
         over = over;
         lowest = λ d u v.
-          let l = is .greatest (d * g) (subst (λ k. d * g ∣ k) top (mul-dvd-mul-right d u g))
-              (subst (λ k. d * g ∣ k) bottom (mul-dvd-mul-right d v g)) in
-          let m : d * g ≤ 1 * g = omega (arith, l) in
-          le-of-mul-le-mul-right m positive;
+            let l = is .greatest (d * g) (subst (λ k. d * g ∣ k) top (mul-dvd-mul-right d u g))
+            (subst (λ k. d * g ∣ k) bottom (mul-dvd-mul-right d v g)) in
+            let m : d * g ≤ 1 * g = omega (arith, l) in
+            le-of-mul-le-mul-right m positive;
       }

@@ -50,7 +50,6 @@ with-both g (a ∷ xs) ys = with-both _ xs ys
 pub from-at : (at : ℕ) (bytes : List ℕ) → take (length bytes - at) (drop at bytes) ≡ drop at bytes
 from-at at bytes = let l = length-drop at bytes in take-all (length bytes - at) (drop at bytes) (omega (arith, l))
 
-
 -- what a lap keeps
 pub record Kept (bytes : List ℕ) (s : Progress) (t : List (List ℕ)) (page : List ℕ) (rows : List (List ℕ)) (s′ : Progress)
     (t′ : List (List ℕ)) (page′ : List ℕ) (rows′ : List (List ℕ)) : Type 0 where

@@ -54,7 +54,8 @@ fn put(o: Outcome, count: usize, answers: &mut [[u32; 3]]) -> usize
         lender,
         at: _,
         turns,
-    } = answer else {
+    } = answer
+    else {
         return count;
     };
     if answers.len() <= count {

@@ -35,7 +35,7 @@ returns-2 c =
     let a = c .before .before .before .before .before .args in
     let page = c .with-page .ensures in (
       page .0 ∙ sym (ap (λ b. cond b (withPage (a .s) (getD (a .answer .now) 1 0) (getD (a .answer .now) 2 0)) (a .s))
-      (eq-eqb _ _ (c .before .before .before .if1 .left))),
+          (eq-eqb _ _ (c .before .before .before .if1 .left))),
       page .1,
     )
 
