@@ -1,3 +1,3 @@
--- What the program gathers of its files, and what it writes.
-pub mod Quarters
+-- The number that a word writes, and what is laid of a quarter.
 pub mod Digits
+pub mod Lines

@@ -3,7 +3,7 @@ use native.Mathlib.Omega.{arith}
 use mathlib.Core.Path.{subst}
 use Rattle.streams.specs.System.{IsSent}
 use Rattle.texts.proofs.Laying.{laid-start, laid-as}
-use Rattle.day_figures.proofs.Quarters.{quarter-fits, line-is}
+use Rattle.day_figures.proofs.Lines.{quarter-fits, line-is}
 use borrow.Author.Needs.{needs}
 use Rattle.day_figures.proofs.run.Statement.{statement}
 use Rattle.day_figures.proofs.run.Tie as tie

@@ -12,7 +12,7 @@ slice-aggregate-bytes : tie.Need-slice-aggregate-bytes
 slice-aggregate-bytes c = search needs
 
 slice-aggregate-bytes-2 : tie.Need-slice-aggregate-bytes-2
-slice-aggregate-bytes-2 c = search needs
+slice-aggregate-bytes-2 c = sym (length-replicate {A = ℕ} 4121 0)
 
 bytes-requires : tie.Need-bytes-requires
 bytes-requires c κs = search needs
@@ -27,7 +27,7 @@ slice-aggregate-run-3 : tie.Need-slice-aggregate-run-3
 slice-aggregate-run-3 c = sym (length-replicate {A = List ℕ} 65536 (replicate 3 0))
 
 slice-aggregate-run-4 : tie.Need-slice-aggregate-run-4
-slice-aggregate-run-4 c = search needs
+slice-aggregate-run-4 c = sym (length-replicate {A = ℕ} 256 0)
 
 run-requires : tie.Need-run-requires
 run-requires c κs =

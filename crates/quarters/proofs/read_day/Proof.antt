@@ -1,8 +1,8 @@
--- `day_figures::read_day` meets its contract.
-use Rattle.day_figures.proofs.Quarters.{unopened}
+-- `quarters::read_day` meets its contract.
+use Rattle.quarters.proofs.Days.{unopened}
 use borrow.Author.Needs.{needs}
-use Rattle.day_figures.proofs.read_day.Statement.{statement}
-use Rattle.day_figures.proofs.read_day.Tie as tie
+use Rattle.quarters.proofs.read_day.Statement.{statement}
+use Rattle.quarters.proofs.read_day.Tie as tie
 
 sub-open-read : tie.Need-sub-open-read
 sub-open-read c = search needs

@@ -1,14 +1,14 @@
--- `day_figures::read_days` meets its contract.
+-- `quarters::read_days` meets its contract.
 use Prim.Native.Nat.{_+_, _-_, _≤_}
 use native.Mathlib.Omega.{arith}
 use mathlib.Core.Path.{_≡_, refl, sym, ap, _∙_, subst}
 use lib.ListN.{length}
 use lib.Seq.{length-take-le}
 use borrow.Author.Needs.{needs}
-use Rattle.day_figures.specs.Runs.{AreRead, IsDayAdded}
-use Rattle.day_figures.proofs.Quarters.{none-read, one-more}
-use Rattle.day_figures.proofs.read_days.Statement.{statement}
-use Rattle.day_figures.proofs.read_days.Tie as tie
+use Rattle.quarters.specs.Days.{AreRead, IsDayAdded}
+use Rattle.quarters.proofs.Days.{none-read, one-more}
+use Rattle.quarters.proofs.read_days.Statement.{statement}
+use Rattle.quarters.proofs.read_days.Tie as tie
 
 abbrev Inv-loop : tie.InvT-loop
 Inv-loop n label₀ bytes₀ answers₀ q₀ i₀ label bytes answers q i =

@@ -1,23 +1,19 @@
 -- What is gathered of days that are read one after the other.
-use Prim.Native.Nat.{ℕ, _+_, _≤_, _<_}
+use Prim.Native.Nat.{ℕ, _+_}
 use native.Mathlib.Omega.{arith}
-use mathlib.Core.Path.{_≡_, refl, sym, ap, _∙_, subst}
-use mathlib.Core.Bool.{Bool, true, false, cond, not, _&&_, true≢false}
+use mathlib.Core.Path.{_≡_, refl, sym, ap, _∙_}
+use mathlib.Core.Bool.{Bool, true, false, _&&_, true≢false}
 use mathlib.Core.List.{List, [], _∷_, _++_, map, append-assoc, append-nil}
-use lib.ListN.{length, take, length-append}
+use lib.ListN.{length, length-append}
 use Rattle.snapshot.proofs.Booleans.{and-both}
-use Rattle.figures.specs.Figures.{answerIn, reckoned}
-use Rattle.figures.proofs.Claims.{first-enough}
 use Rattle.days.specs.Happenings.{dayOf}
 use Rattle.gathering.specs.Answers.{answersIn, quarterOf}
-use Rattle.gathering.specs.Gathered.{Gathered, withAll}
+use Rattle.gathering.specs.Gathered.{withAll}
 use Rattle.gathering.specs.Laps.{gathered}
 use Rattle.gathering.proofs.Passing.{with-both}
-use Rattle.gathering.proofs.Kept.{heldIn, Holds, with-all}
-use Rattle.figurelines.specs.FigureText.{reckoningText}
 use Rattle.streams.specs.Input.{Incoming}
-use Rattle.day_figures.specs.declared.Quarter.{Quarter}
-use Rattle.day_figures.specs.Runs.{IsTried, AllDays, isWhole, allWhole, answersOf, IsQuarter, IsAdded, IsDayAdded, AreRead, lineOf, writtenOf}
+use Rattle.quarters.specs.declared.Quarter.{Quarter}
+use Rattle.quarters.specs.Days.{IsTried, AllDays, isWhole, allWhole, answersOf, IsQuarter, IsAdded, IsDayAdded, AreRead}
 
 -- a file that could not be opened
 pub unopened : (bytes : List ℕ) → IsTried (record { at = 0; end = 0; last = true; failed = true }) bytes
@@ -100,30 +96,3 @@ one-more files size before rows q rows′ q′ are more =
         ∙ ap (λ g. withAll g (answersIn (dayOf (d .left)))) (are .quarter .held (both .1))
         ∙ sym (with-both (gathered before 0) (answersOf ds) (answersIn (dayOf (d .left))))
         ∙ ap (withAll (gathered before 0)) (sym (answers-more ds d))
-
--- ---- what is laid of them
-
-module _ (desks : ℕ) (ds : List Incoming) (before rows : List (List ℕ)) (q : Quarter) (is : IsQuarter ds before rows q)
-    (room : 65535 < length before) where
-  -- before any answer
-  abbrev empty : Gathered
-  empty = gathered before 0
-
-  gathers : Holds empty (withAll empty (answersOf ds)) (answersOf ds)
-  gathers = with-all empty (answersOf ds) (omega arith)
-
-  pub quarter-fits : q .whole ≡ true → q .count ≤ length rows
-  quarter-fits whole =
-      subst (λ g. g .count ≤ length (g .rows)) (sym (is .held (sym (is .whole) ∙ whole))) (gathers .few)
-
-  pub line-is : lineOf desks rows q ≡ writtenOf desks ds
-  line-is = ap (λ w. cond w line []) (is .whole) ∙ go (allWhole ds) refl
-    where
-      line : List ℕ
-      line = reckoningText desks (reckoned desks (map answerIn (take (q .count) rows)))
-
-      go : (b : Bool) → allWhole ds ≡ b → cond b line [] ≡ cond b (reckoningText desks (reckoned desks (answersOf ds))) []
-      go true whole =
-          ap (λ xs. reckoningText desks (reckoned desks xs)) (ap heldIn (is .held whole) ∙ gathers .holds)
-          ∙ ap (reckoningText desks) (first-enough desks (length before) (answersOf ds) room)
-      go false lost = refl

@@ -1,4 +1,4 @@
--- `day_figures::gather` meets its contract.
+-- `quarters::gather` meets its contract.
 use mathlib.Core.Path.{sym, ap, ap₂, _∙_}
 use mathlib.Core.Bool.{not, _&&_}
 use lib.Seq.{length-take-le}
@@ -8,11 +8,11 @@ use Rattle.gathering.specs.Gathered.{withAll}
 use Rattle.gathering.specs.Laps.{gathered}
 use Rattle.streams.specs.Input.{incoming}
 use Rattle.streams.proofs.Whole.{front-left}
-use Rattle.day_figures.proofs.Quarters.{day-lost, day-gathered}
+use Rattle.quarters.proofs.Days.{day-lost, day-gathered}
 use borrow.Author.Needs.{needs}
 use borrow.Author.Tests.{not-true, not-false}
-use Rattle.day_figures.proofs.gather.Statement.{statement}
-use Rattle.day_figures.proofs.gather.Tie as tie
+use Rattle.quarters.proofs.gather.Statement.{statement}
+use Rattle.quarters.proofs.gather.Tie as tie
 
 returns : tie.Need-returns
 returns c =

@@ -1,0 +1,2 @@
+-- What is gathered of days that are read one after the other.
+pub mod Days
