@@ -1,5 +1,6 @@
--- What a lap of the code leaves to gather, and what is gathered in the end.
+-- How the code gathers, what is held in the end, and answers computed from the bytes of files.
 pub mod Blank
 pub mod Putting
 pub mod Passing
 pub mod Kept
+pub mod Cases
