@@ -1,8 +1,9 @@
 -- What a run leaves in the buffer that it hands to the system: the line of the figures of its files, however the reads cut them
--- (`figures-printed`; the program's buffer for a file has 2,097,153 bytes), and nothing where one of them could not be read or is longer (`lost-unprinted`, `long-lost`).
+-- (`figures-printed`), and nothing where one of them could not be read or does not leave a byte of the buffer, which has 2,097,153
+-- (`lost-unprinted`, `long-lost`).
 use Prim.Native.Nat.{ℕ, _+_, _-_, _^_, _≤_, _<_}
 use native.Mathlib.Omega.{arith}
-use mathlib.Core.Path.{_≡_, refl, sym, ap, ap₂, subst, _∙_}
+use mathlib.Core.Path.{_≡_, refl, ap, ap₂, subst, _∙_}
 use mathlib.Core.Bool.{Bool, true, false, cond, not, _&&_}
 use mathlib.Core.List.{List, [], _∷_, _++_, map}
 use lib.ListN.{length}
@@ -11,7 +12,7 @@ use Rattle.gathering.specs.Answers.{quarterOf}
 use Rattle.figurelines.specs.FigureText.{reckoningText}
 use Rattle.texts.specs.Laying.{Laid}
 use Rattle.streams.specs.System.{IsSent}
-use Rattle.streams.specs.Input.{Incoming, complete, incoming, IsWhole, ReadsFile, interruptions}
+use Rattle.streams.specs.Input.{Incoming, complete, IsWhole, ReadsFile, interruptions}
 use Rattle.streams.proofs.Whole.{whole-file, whole-full}
 use Rattle.quarters.specs.Days.{IsDay, AllDays, isWhole, allWhole, answersOf}
 use Rattle.day_figures.specs.Runs.{writtenOf, IsFiguresRun}
@@ -96,4 +97,5 @@ module _ {desks names size : ℕ} {before out : List ℕ} {went : Bool} (r : IsF
   pub lost-unprinted : (ds : List Incoming) (d : Incoming) (es : List Incoming) → r .days ≡ ds ++ d ∷ es → isWhole d ≡ false →
       Prints [] before out (r .end) went
   lost-unprinted ds d es is lost =
-      as-text [] (ap (λ b. cond b (reckoningText desks (reckoned desks (answersOf (r .days)))) []) (ap allWhole is ∙ one-lost ds d es lost))
+      let line = reckoningText desks (reckoned desks (answersOf (r .days))) in
+      as-text [] (ap (λ b. cond b line []) (ap allWhole is ∙ one-lost ds d es lost))

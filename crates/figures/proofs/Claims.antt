@@ -14,7 +14,7 @@ use borrow.Author.Tests.{lt-ltb}
 use Rattle.fractions.specs.Fractions.{greatestDivisor, lowestTerms, IsLowest}
 use Rattle.fractions.proofs.Divisors.{lowest-is}
 use Rattle.figures.specs.declared.Reckoning.the-variants.{Given, Refused}
-use Rattle.snapshot.specs.declared.Refusal.the-variants.{CountRange, NoPage, TooMany}
+use Rattle.snapshot.specs.declared.Refusal.the-variants.{CountRange, NoPage}
 use Rattle.figures.specs.Figures.{PageAnswer, answersFor, turnsIn, borrowedIn, figuresOf, reckoned}
 use Rattle.figures.proofs.Summed.{by-causes, reckoned-by}
 

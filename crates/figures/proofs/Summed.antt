@@ -1,10 +1,8 @@
 -- The sums of the code are those of the definitions (`sums-come`), so that they give the figures (`figures-come`).
 use Prim.Native.Nat.{ℕ, suc, _+_, max}
-use native.Mathlib.Nat.{add-assoc, max-eq-left, max-eq-right, max-zero, zero-max, zero-add}
-use native.Mathlib.Decide.{decLe}
+use native.Mathlib.Nat.{add-assoc, max-zero, zero-max, zero-add}
 use native.Mathlib.Omega.{arith}
-use mathlib.Core.Path.{_≡_, refl, sym, ap, _∙_}
-use mathlib.Core.Logic.{by-cases}
+use mathlib.Core.Path.{_≡_, sym, ap, _∙_}
 use mathlib.Core.Bool.{Bool, true, false, cond, _||_}
 use mathlib.Core.List.{List, [], _∷_}
 use lib.Dec.{eqb, ltb}
@@ -20,18 +18,7 @@ use Rattle.figures.specs.Figures.{PageAnswer, answersFor, turnsIn, borro
 use Rattle.figures.specs.Sums.{noSums, withPage, withAnswer, sumsFrom}
 
 max-assoc : (a b c : ℕ) → max (max a b) c ≡ max a (max b c)
-max-assoc a b c =
-    by-cases (decLe a b)
-    (λ l.
-    by-cases (decLe b c)
-    (λ m. ap (λ k. max k c) (max-eq-right l) ∙ max-eq-right m ∙ sym (ap (max a) (max-eq-right m) ∙ max-eq-right (omega (arith, l, m))))
-    (λ m. ap (λ k. max k c) (max-eq-right l) ∙ sym (ap (max a) (max-eq-left (omega (arith, m)))
-    ∙ max-eq-right l ∙ sym (max-eq-left (omega (arith, m))))))
-    (λ l.
-    by-cases (decLe b c)
-    (λ m. ap (λ k. max k c) (max-eq-left (omega (arith, l))) ∙ sym (ap (max a) (max-eq-right m)))
-    (λ m. ap (λ k. max k c) (max-eq-left (omega (arith, l))) ∙ max-eq-left (omega (arith, l, m))
-    ∙ sym (ap (max a) (max-eq-left (omega (arith, m))) ∙ max-eq-left (omega (arith, l)))))
+max-assoc a b c = omega arith
 
 -- s and the sums of all of xs
 abbrev with-all : Sums → List PageAnswer → Sums

@@ -1,6 +1,6 @@
 -- The greatest common divisor is one (`greatest-is`), Euclid's division keeps it (`euclid`), and a fraction that is divided by it is
 -- in lowest terms (`lowest-is`).
-use Prim.Native.Nat.{ℕ, zero, suc, _+_, _*_, _/_, _%_, _≤_, _<_, _∣_}
+use Prim.Native.Nat.{ℕ, zero, suc, _+_, _*_, _/_, _%_, _≤_, _∣_}
 use native.Mathlib.Nat.{dvd-refl, dvd-zero, dvd-mod-iff, le-of-dvd, pos-of-dvd-of-pos, mod-eq-zero-of-dvd, dvd-of-mod-eq-zero}
 use native.Mathlib.Nat.{one-dvd, div-mul-cancel, mul-dvd-mul-right, le-of-mul-le-mul-right, mul-assoc, mul-right-comm, le-antisymm}
 use native.Mathlib.Decide.{ℕ-discrete}
@@ -10,8 +10,7 @@ use mathlib.Core.Logic.{by-cases}
 use mathlib.Core.Bool.{Bool, true, false, cond, _&&_}
 use lib.Dec.{eqb}
 use borrow.Author.Tests.{eqb-true, eqb-false}
-use Rattle.fractions.specs.declared.Fraction.{Fraction}
-use Rattle.fractions.specs.Fractions.{dividesBoth, greatestUpTo, greatestDivisor, lowestTerms, IsGreatestDivisor, IsLowest}
+use Rattle.fractions.specs.Fractions.{greatestUpTo, greatestDivisor, lowestTerms, IsGreatestDivisor, IsLowest}
 
 -- ---- the one that is looked for
 
@@ -112,13 +111,17 @@ module _ (a b : ℕ) (some : 1 ≤ b) where
   bottom = div-mul-cancel g (is .right)
 
   over : 1 ≤ b / g
-  over = by-cases (ℕ-discrete (b / g) 0) (λ z. let e = sym bottom ∙ ap (λ k. k * g) z in absurd (omega (arith, e, some))) (λ z. omega (arith, z))
+  over =
+      by-cases (ℕ-discrete (b / g) 0)
+      (λ z. let e = sym bottom ∙ ap (λ k. k * g) z in absurd (omega (arith, e, some)))
+      (λ z. omega (arith, z))
 
   pub lowest-is : IsLowest (lowestTerms a b) a b
   unfolding lowestTerms
   lowest-is =
       record {
-        same = ap (λ k. a / g * k) (sym bottom) ∙ sym (mul-assoc (a / g) (b / g) g) ∙ mul-right-comm (a / g) (b / g) g ∙ ap (λ k. k * (b / g)) top;
+        same = ap (λ k. a / g * k) (sym bottom) ∙ sym (mul-assoc (a / g) (b / g) g) ∙ mul-right-comm (a / g) (b / g) g
+            ∙ ap (λ k. k * (b / g)) top;
         over = over;
         lowest = λ d u v.
             let l = is .greatest (d * g) (subst (λ k. d * g ∣ k) top (mul-dvd-mul-right d u g))

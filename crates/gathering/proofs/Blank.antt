@@ -1,5 +1,5 @@
 -- The table that a file begins with: words of 0 are blank records.
-use Prim.Native.Nat.{ℕ, zero, suc, _<_}
+use Prim.Native.Nat.{ℕ, zero, suc}
 use native.Mathlib.Nat.{not-suc-le-zero, le-of-suc-le-suc}
 use mathlib.Core.Path.{_≡_, refl, ap}
 use mathlib.Core.List.{List}
@@ -7,7 +7,7 @@ use lib.ListN.{length, replicate}
 use Rattle.snapshot.specs.Requests.{blankDay}
 use Rattle.unbounded.specs.Processes.{zeroProcess}
 use Rattle.packed.specs.Packing.{unpackRecord}
-use Rattle.days.specs.Happenings.{Box, Happening, blankBox, fileOn, dayOf}
+use Rattle.days.specs.Happenings.{fileOn, dayOf}
 use Rattle.packed_rows.specs.Rows.{LongRows}
 use Rattle.packed_days.specs.Boxes.{boxIn}
 

@@ -1,5 +1,5 @@
 -- What a list holds once answers are gathered in it: those it held and the new ones after them, as many as it has places for.
-use Prim.Native.Nat.{ℕ, suc, _+_, _≤_, _<_}
+use Prim.Native.Nat.{ℕ, _+_, _≤_, _<_}
 use native.Mathlib.Nat.{le-refl}
 use native.Mathlib.Numerals.{add-one}
 use native.Mathlib.Omega.{arith}
@@ -7,7 +7,7 @@ use mathlib.Core.Path.{_≡_, refl, sym, ap, ap₂, _∙_, subst}
 use mathlib.Core.Bool.{Bool, true, false, cond}
 use mathlib.Core.List.{List, [], _∷_, _++_, map, append-assoc, append-nil, map-append}
 use lib.Dec.{ltb}
-use lib.ListN.{length, getD, take, set, length-map, length-set}
+use lib.ListN.{length, take, set, length-map, length-set}
 use lib.Seq.{take-all, take-suc, take-set-le, getD-set-same, length-take-le, take-append-le}
 use borrow.Author.Tests.{ltb-true, ltb-false}
 use Rattle.figures.specs.Figures.{PageAnswer, answerIn}

@@ -3,12 +3,10 @@
 use Prim.Native.Nat.{ℕ, suc, _+_, _-_, _≤_, _<_}
 use native.Mathlib.Omega.{arith}
 use mathlib.Core.Path.{_≡_, refl, sym, ap, ap₂, _∙_, subst}
-use mathlib.Core.Bool.{Bool, true, false, cond}
+use mathlib.Core.Bool.{true, false, cond}
 use mathlib.Core.List.{List, [], _∷_, _++_}
 use lib.ListN.{length, take, drop, length-drop}
 use lib.Seq.{take-all, drop-drop}
-use Rattle.snapshot.specs.Refusals.{numberOf}
-use Rattle.snapshot.specs.declared.Day.{Day}
 use Rattle.snapshot.specs.declared.Outcome.{Outcome}
 use Rattle.dayfile.specs.Reader.{reading}
 use Rattle.dayfile.specs.declared.Reading.{Reading}
@@ -76,8 +74,17 @@ module _ (s : Progress) (bytes : List ℕ) (t : List (List ℕ)) (page : List �
   laps-are : lapsLeft s (length bytes) ≡ suc (length bytes - s .at)
   laps-are = ap (λ e. cond e 0 (suc (length bytes - s .at))) going
 
+  -- what is gathered in the end, where what is left to happen is known
+  abbrev gathers-of : List Happening → Gathered
+  gathers-of hs = withAll (gathered rows (s .count)) (answersIn hs)
+
   module _ (o : Outcome) (t′ : List (List ℕ)) (page′ : List ℕ) (rows′ : List (List ℕ)) (count : ℕ)
       (put : gathered rows′ count ≡ withAll (gathered rows (s .count)) (pageAnswers (o .day .count) (o .answer))) where
+    -- of the outcome of what was read
+    put-of : (x : Reading) → o ≡ outcomeIn b x →
+        gathered rows′ count ≡ withAll (gathered rows (s .count)) (pageAnswers (outcomeIn b x .day .count) (outcomeIn b x .answer))
+    put-of x is = put ∙ ap (λ o. withAll (gathered rows (s .count)) (pageAnswers (o .day .count) (o .answer))) is
+
     kept : (x : Reading) → x ≡ reading left → o ≡ outcomeIn b x → IsAfter x b (o .day) t′ page′ →
         Kept bytes s t page rows (progressPast s x (o .day) count) t′ page′ rows′
     unfolding progressPast
@@ -88,11 +95,11 @@ module _ (s : Progress) (bytes : List ℕ) (t : List (List ℕ)) (page : List �
         let long = length-drop (s .at) bytes in
         let laps = laps-are in
         let further = ap₂ fileOn (after .box) (sym (drop-drop next (s .at) bytes)) in
-        let said = ap (λ o. pageAnswers (o .day .count) (o .answer)) is in
+        let later = answersIn (fileOn (boxAfter b (Found r next)) (drop next left)) in
         record {
-          gathers = ap₂ (λ g hs. withAll g (answersIn hs)) (put ∙ ap (withAll (gathered rows (s .count))) said) further
-              ∙ sym (with-both (gathered rows (s .count)) (pageAnswers (h .outcome .day .count) (h .outcome .answer))
-              (answersIn (fileOn (boxAfter b (Found r next)) (drop next left)))) ∙ ap (λ hs. withAll (gathered rows (s .count)) (answersIn hs)) (sym here);
+          gathers = ap₂ (λ g hs. withAll g (answersIn hs)) (put-of (Found r next) is) further
+              ∙ sym (with-both (gathered rows (s .count)) (pageAnswers (h .outcome .day .count) (h .outcome .answer)) later)
+              ∙ ap gathers-of (sym here);
           ends = ap endedBy further ∙ ap endedBy (sym here) ∙ sym ends-are;
           within = omega (arith, took, long, inside);
           less = omega (arith, took, long, inside, laps);
@@ -100,8 +107,7 @@ module _ (s : Progress) (bytes : List ℕ) (t : List (List ℕ)) (page : List �
     kept End q is after =
         let laps = laps-are in
         record {
-          gathers = put ∙ ap (λ o. withAll (gathered rows (s .count)) (pageAnswers (o .day .count) (o .answer))) is
-              ∙ ap (λ hs. withAll (gathered rows (s .count)) (answersIn hs)) (sym (rest-is End q));
+          gathers = put-of End is ∙ ap gathers-of (sym (rest-is End q));
           ends = ap endedBy (sym (rest-is End q)) ∙ sym ends-are;
           within = inside;
           less = omega (arith, laps);
@@ -109,8 +115,7 @@ module _ (s : Progress) (bytes : List ℕ) (t : List (List ℕ)) (page : List �
     kept (Refused k) q is after =
         let laps = laps-are in
         record {
-          gathers = put ∙ ap (λ o. withAll (gathered rows (s .count)) (pageAnswers (o .day .count) (o .answer))) is
-              ∙ ap (λ hs. withAll (gathered rows (s .count)) (answersIn hs)) (sym (rest-is (Refused k) q));
+          gathers = put-of (Refused k) is ∙ ap gathers-of (sym (rest-is (Refused k) q));
           ends = ap endedBy (sym (rest-is (Refused k) q)) ∙ sym ends-are;
           within = inside;
           less = omega (arith, laps);
@@ -126,7 +131,9 @@ module _ (s : Progress) (bytes : List ℕ) (t : List (List ℕ)) (page : List �
 
 module _ (s : Progress) (t : List (List ℕ)) (page : List ℕ) (rows : List (List ℕ)) (bytes : List ℕ) (done : s .ended ≡ true) where
   pub all-gathered : gathersFrom s t page rows bytes ≡ gathered rows (s .count)
-  all-gathered = ap (λ e. withAll (gathered rows (s .count)) (answersIn (cond e [] (fileOn (boxIn (s .day) t page) (drop (s .at) bytes))))) done
+  all-gathered =
+      let left = fileOn (boxIn (s .day) t page) (drop (s .at) bytes) in
+      ap (λ e. withAll (gathered rows (s .count)) (answersIn (cond e [] left))) done
 
   pub all-ended : endsFrom s t page bytes ≡ s .refusal
   all-ended = ap (λ e. cond e (s .refusal) (endedBy (restOf s t page bytes))) done

@@ -12,7 +12,7 @@ use Rattle.snapshot.specs.declared.Request.{Request}
 use Rattle.dayfile.specs.Reader.{reading}
 use Rattle.dayfile.specs.declared.Reading.{Reading}
 use Rattle.dayfile.specs.declared.Reading.the-variants.{Found, End, Refused}
-use Rattle.days.specs.Happenings.{Box, outcomeIn}
+use Rattle.days.specs.Happenings.{outcomeIn}
 use Rattle.packed_days.specs.Boxes.{boxIn, IsAfter}
 use Rattle.gathering.specs.declared.Progress.{Progress}
 use Rattle.gathering.specs.Answers.{pageAnswers}

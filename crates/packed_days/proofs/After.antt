@@ -1,15 +1,12 @@
 -- What asking a record leaves of a box whose records lie as words: that of the box after it (`asked-after`), and where no record was
 -- found, all of it (`unread-after`).
-use Prim.Native.Nat.{ℕ, zero, suc, _+_, _-_, _≤_, _<_}
-use native.Mathlib.Decide.{decLt}
+use Prim.Native.Nat.{ℕ, zero, suc, _+_, _-_}
 use native.Mathlib.Omega.{arith}
-use mathlib.Core.Path.{_≡_, refl, sym, ap, _∙_, subst}
-use mathlib.Core.Logic.{by-cases}
+use mathlib.Core.Path.{_≡_, refl, sym, ap, ap₂, _∙_, subst}
 use mathlib.Core.Bool.{true, false}
 use mathlib.Core.List.{List, [], _∷_, _++_}
 use lib.Dec.{T}
-use lib.ListN.{length, getD, take, drop, length-append, List·getD-append, length-drop}
-use lib.Seq.{length-take-le}
+use lib.ListN.{take, drop}
 use Rattle.snapshot.specs.Demand.{Result}
 use Rattle.snapshot.specs.Days.{State}
 use Rattle.snapshot.specs.declared.Day.{Day}
@@ -26,7 +23,7 @@ use Rattle.packed_rows.specs.Rows.{unpackedAll, LongRows}
 use Rattle.packed_table.specs.Tables.{tableAfter, steppedIn}
 use Rattle.packed_table.proofs.Chained.{unpacked-after, long-after}
 use Rattle.days.specs.Asking.{isNone, requestOf, lentTo, unaskedOf}
-use Rattle.days.specs.Happenings.{Box, boxAfter, outcomeIn}
+use Rattle.days.specs.Happenings.{Box, outcomeIn}
 use Rattle.days.proofs.Boxes.{unread-stays}
 use Rattle.packed_days.specs.Boxes.{boxIn, IsAfter}
 
@@ -100,8 +97,8 @@ module _ (d : Day) (t : List (List ℕ)) (page : List ℕ) (long : LongRows t) w
         (o ≡ outcomeIn b (Found r next)) × IsAfter (Found r next) b (o .day) (lent ++ drop n t) shown
     record-after o is lent left shown page-is =
         let short = long-take n t long in
-        let records = unpacked-append lent (drop n t)
-        ∙ (λ i. ((ap unpackedAll left ∙ unpacked-after d (take n t) r page short ∙ ap (λ z. z .state .table) same) i) ++ unpacked-drop n t i) in
+        let lent-is = ap unpackedAll left ∙ unpacked-after d (take n t) r page short ∙ ap (λ z. z .state .table) same in
+        let records = unpacked-append lent (drop n t) ∙ ap₂ (λ ps qs. ps ++ qs) lent-is (unpacked-drop n t) in
         let told = is ∙ ap outcomeOf same in
         let shows = page-is ∙ ap (λ z. pageAfter page z r) same in (
           told,

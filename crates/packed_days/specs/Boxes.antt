@@ -3,7 +3,6 @@ use Prim.Native.Nat.{ℕ}
 use mathlib.Core.Path.{_≡_}
 use mathlib.Core.List.{List}
 use Rattle.snapshot.specs.declared.Day.{Day}
-use Rattle.snapshot.specs.declared.Outcome.{Outcome}
 use Rattle.dayfile.specs.declared.Reading.{Reading}
 use Rattle.days.specs.Happenings.{Box, boxAfter}
 use Rattle.packed_rows.specs.Rows.{unpackedAll, LongRows}

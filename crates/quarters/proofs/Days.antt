@@ -4,7 +4,7 @@ use native.Mathlib.Omega.{arith}
 use mathlib.Core.Path.{_≡_, refl, sym, ap, _∙_}
 use mathlib.Core.Bool.{Bool, true, false, _&&_, true≢false}
 use mathlib.Core.List.{List, [], _∷_, _++_, map, append-assoc, append-nil}
-use lib.ListN.{length, length-append}
+use lib.ListN.{length-append}
 use Rattle.snapshot.proofs.Booleans.{and-both}
 use Rattle.days.specs.Happenings.{dayOf}
 use Rattle.gathering.specs.Answers.{answersIn, quarterOf}
@@ -13,7 +13,7 @@ use Rattle.gathering.specs.Laps.{gathered}
 use Rattle.gathering.proofs.Passing.{with-both}
 use Rattle.streams.specs.Input.{Incoming}
 use Rattle.quarters.specs.declared.Quarter.{Quarter}
-use Rattle.quarters.specs.Days.{IsTried, AllDays, isWhole, allWhole, answersOf, IsQuarter, IsAdded, IsDayAdded, AreRead}
+use Rattle.quarters.specs.Days.{IsTried, AllDays, isWhole, allWhole, answersOf, IsAdded, IsDayAdded, AreRead}
 
 -- a file that could not be opened
 pub unopened : (bytes : List ℕ) → IsTried (record { at = 0; end = 0; last = true; failed = true }) bytes
@@ -43,7 +43,8 @@ module _ (d : Incoming) (q : Quarter) (rows : List (List ℕ)) where
 quarter-more : (fs : List (List ℕ)) (f : List ℕ) → quarterOf (fs ++ (f ∷ [])) ≡ quarterOf fs ++ answersIn (dayOf f)
 quarter-more [] f = append-nil (answersIn (dayOf f))
 quarter-more (g ∷ fs) f =
-    ap (λ xs. answersIn (dayOf g) ++ xs) (quarter-more fs f) ∙ sym (append-assoc (answersIn (dayOf g)) (quarterOf fs) (answersIn (dayOf f)))
+    ap (λ xs. answersIn (dayOf g) ++ xs) (quarter-more fs f)
+    ∙ sym (append-assoc (answersIn (dayOf g)) (quarterOf fs) (answersIn (dayOf f)))
 
 files-more : (ds : List Incoming) (d : Incoming) → map (λ d. d .left) (ds ++ (d ∷ [])) ≡ map (λ d. d .left) ds ++ (d .left ∷ [])
 files-more [] d = refl
@@ -61,7 +62,8 @@ whole-more (e ∷ ds) d = ap (λ b. isWhole e && b) (whole-more ds d) ∙ exchan
     exchanged false true c = refl
     exchanged false false c = refl
 
-tried-more : (size : ℕ) (ds : List Incoming) (d : Incoming) → AllDays size ds → AllDays size (d ∷ []) → AllDays size (ds ++ (d ∷ []))
+tried-more : (size : ℕ) (ds : List Incoming) (d : Incoming) → AllDays size ds → AllDays size (d ∷ []) →
+    AllDays size (ds ++ (d ∷ []))
 tried-more size [] d all more = more
 tried-more size (e ∷ ds) d all more = (all .0, tried-more size ds d (all .1) more)
 
@@ -77,7 +79,7 @@ one-more files size before rows q rows′ q′ are more =
       days = ds′;
       each = length-append ds (d ∷ []) ∙ ap (λ k. k + 1) (are .each);
       tried = tried-more size ds d (are .tried) (more .tried, tt);
-      quarter = record { whole = more .added .whole ∙ ap (λ b. isWhole d && b) (are .quarter .whole) ∙ sym (whole-more ds d); held = held };
+      quarter = record { whole = whole; held = held };
     }
   where
     ds : List Incoming
@@ -88,6 +90,9 @@ one-more files size before rows q rows′ q′ are more =
 
     ds′ : List Incoming
     ds′ = ds ++ (d ∷ [])
+
+    whole : q′ .whole ≡ allWhole ds′
+    whole = more .added .whole ∙ ap (λ b. isWhole d && b) (are .quarter .whole) ∙ sym (whole-more ds d)
 
     held : allWhole ds′ ≡ true → gathered rows′ (q′ .count) ≡ withAll (gathered before 0) (answersOf ds′)
     held all =

@@ -1,5 +1,4 @@
 -- `figurelines::lay` meets its contract.
-use native.Mathlib.Omega.{arith}
 use Rattle.figurelines.proofs.Texts.{nothing-laid, all-laid, refusal-laid}
 use mathlib.Core.Path.{sym, ap}
 use Rattle.texts.proofs.Laying.{laid-as}

@@ -1,9 +1,8 @@
 -- `fractions::lowest` meets its contract.
 use Prim.Native.Nat.{_/_}
 use native.Mathlib.Nat.{div-zero}
-use mathlib.Core.Path.{_≡_, refl, sym, ap, _∙_}
+use mathlib.Core.Path.{sym, ap, _∙_}
 use borrow.Author.Needs.{needs}
-use Rattle.fractions.specs.declared.Fraction.{Fraction}
 use Rattle.fractions.specs.Fractions.{lowestTerms}
 use Rattle.fractions.proofs.lowest.Statement.{statement}
 use Rattle.fractions.proofs.lowest.Tie as tie
@@ -16,7 +15,8 @@ unfolding lowestTerms
 returns c =
     let a = c .before .before .args in
     let zero = sym (c .before .gcd .ensures) ∙ c .if1 .taken in
-    sym (ap (λ g. record { numerator = a .a / g; denominator = a .b / g }) zero ∙ (λ i. record { numerator = div-zero (a .a) i; denominator = div-zero (a .b) i }))
+    sym (ap (λ g. record { numerator = a .a / g; denominator = a .b / g }) zero
+    ∙ (λ i. record { numerator = div-zero (a .a) i; denominator = div-zero (a .b) i }))
 
 div-t5 : tie.Need-div-t5
 div-t5 c = search needs

@@ -1,6 +1,6 @@
 -- `gathering::past` meets its contract.
 use native.Mathlib.Omega.{arith}
-use mathlib.Core.Path.{_≡_, refl, sym, ap, _∙_}
+use mathlib.Core.Path.{sym, ap, _∙_}
 use Rattle.gathering.specs.Laps.{progressPast}
 use mathlib.Core.Bool.{true}
 use borrow.Author.Needs.{needs}

@@ -48,12 +48,18 @@ lap-requires c κs =
     (inv .0, inv .1, inv .2)
 
 -- what a lap keeps
-keeps : (c : tie.After-answers Inv-loop μ-loop) → let l = c .before .before .before .before .before .before .before .before .before .before .loop in let lap = c .before .before .before .before .lap in
-    Kept (c .before .before .before .before .before .before .before .before .before .before .before .before .before .before .args .bytes .now) (l .s) (l .t) (l .page) (l .answers)
+keeps : (c : tie.After-answers Inv-loop μ-loop) →
+    let at-lap = c .before .before .before .before in
+    let held = at-lap .before .before .before .before .before .before in
+    let l = held .loop in
+    let lap = at-lap .lap in
+    Kept (held .before .before .before .before .args .bytes .now) (l .s) (l .t) (l .page) (l .answers)
     (lap .result) (lap .last .1 .1 .0) (lap .last .1 .1 .1 .0) (lap .last .1 .1 .1 .1 .0)
 keeps c =
-    let l = c .before .before .before .before .before .before .before .before .before .before .loop in
-    lap-keeps (l .s) _ (l .t) (l .page) (l .answers) (not-true _ (c .before .before .before .before .before .before .before .before .if1 .taken)) (l .inv .0) (c .before .before .before .before .lap .ensures)
+    let at-lap = c .before .before .before .before in
+    let at-test = at-lap .before .before .before .before in
+    let l = at-test .before .before .loop in
+    lap-keeps (l .s) _ (l .t) (l .page) (l .answers) (not-true _ (at-test .if1 .taken)) (l .inv .0) (at-lap .lap .ensures)
 
 loop-less : tie.Need-loop-less Inv-loop μ-loop
 loop-less c = keeps c .less

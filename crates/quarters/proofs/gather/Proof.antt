@@ -45,10 +45,12 @@ same-length c = search needs
 returns-3 : tie.Need-returns-3
 returns-3 c =
     let at-gather = c .before .before in
-    let held = at-gather .before .before .before .before .before .before .before .before in
+    let at-last = at-gather .before .before .before in
+    let at-failed = at-last .before .before in
+    let held = at-failed .before .before .before in
     let a = held .args in
     day-gathered (incoming (a .i) (a .bytes .now)) (a .q) (a .answers .now)
-    (ap₂ (λ f l. not f && l) (at-gather .before .before .before .before .before .if1 .left) (not-false _ (at-gather .before .before .before .if2 .left))) _ _
+    (ap₂ (λ f l. not f && l) (at-failed .if1 .left) (not-false _ (at-last .if2 .left))) _ _
     (at-gather .gather .ensures .0 ∙ ap (λ f. withAll (gathered (a .answers .now) (a .q .count)) (answersIn (dayOf f)))
     (sym (front-left (a .i) (a .bytes .now) (held .pre .1 .front))))
 

@@ -1,7 +1,7 @@
 -- `quarters::read_days` meets its contract.
 use Prim.Native.Nat.{_+_, _-_, _≤_}
 use native.Mathlib.Omega.{arith}
-use mathlib.Core.Path.{_≡_, refl, sym, ap, _∙_, subst}
+use mathlib.Core.Path.{_≡_, refl, sym, _∙_, subst}
 use lib.ListN.{length}
 use lib.Seq.{length-take-le}
 use borrow.Author.Needs.{needs}
@@ -48,16 +48,19 @@ loop-less c = search needs
 
 loop-again : tie.Need-loop-again Inv-loop μ-loop
 loop-again c =
-    let l = c .before .before .before .before .before .before .before .before .before .before .before .before .loop in
-    let a = c .before .before .before .before .before .before .before .before .before .before .before .before .before .before .before .args in
-    let add = c .before .before .before .add-day in
+    let at-add = c .before .before .before in
+    let at-name = at-add .before .before .before .before .before .before in
+    let held = at-name .before .before .before in
+    let l = held .loop in
+    let a = held .before .before .before .args in
+    let add = at-add .add-day in
     let size = length (a .bytes .now) in
     let here = l .inv .0 in
     let more : l .i - 2 + 1 ≡ l .i + 1 - 2 = omega (arith, here) in
     let added = subst (λ k. IsDayAdded k (l .q) (l .answers) (add .result) (add .last .1 .1 .1 .0)) (l .inv .3) (add .ensures) in (
       omega arith,
       omega arith,
-      c .before .before .before .before .before .before .before .before .before .name .kept .1 .0 ∙ l .inv .2,
+      at-name .name .kept .1 .0 ∙ l .inv .2,
       add .kept .1 .1 .0 ∙ l .inv .3,
       add .kept .1 .1 .1 .0 ∙ l .inv .4,
       subst (λ k. AreRead k size (a .answers .now) (add .last .1 .1 .1 .0) (add .result)) more
