@@ -3,13 +3,14 @@ use Prim.Native.Nat.{ℕ, _+_, _-_, _*_, _≤_, _<_, min}
 use native.Mathlib.Nat.{min-eq-left, min-eq-right}
 use native.Mathlib.Decide.{decLe}
 use native.Mathlib.Omega.{arith}
-use mathlib.Core.Path.{_≡_, sym, ap, ap₂, _∙_}
+use mathlib.Core.Path.{_≡_, refl, sym, ap, ap₂, _∙_}
 use mathlib.Core.Logic.{by-cases}
 use mathlib.Core.Bool.{Bool, cond, not, _&&_}
 use mathlib.Core.List.{List, [], _∷_}
 use lib.Dec.{leb}
 use lib.ListN.{length}
 use borrow.Author.Tests.{eq-eqb, ne-eqb, le-leb, lt-leb}
+use Rattle.texts.specs.Ascii.{ascii}
 use Rattle.texts.specs.Decimal.{valueAfter}
 use Rattle.day_figures.specs.declared.words.Word.{Word}
 use Rattle.day_figures.specs.declared.words.Word.the-variants.{Number, Other}
@@ -62,3 +63,16 @@ module _ (text : List ℕ) where
 
 pub all-read : (v : ℕ) → v ≤ 9 → Number v ≡ wordFrom v []
 all-read v l = ap Number (sym (min-eq-right l))
+
+-- ---- computed
+
+pub words :
+    (wordOf (ascii "2") ≡ Number 2)
+    × (wordOf (ascii "08") ≡ Number 8)
+    × (wordOf (ascii "9") ≡ Number 9)
+    × (wordOf (ascii "4294967298") ≡ Number 9)
+    × (wordOf (ascii "2:") ≡ Other)
+    × (wordOf (ascii "/2") ≡ Other)
+    × (wordOf [] ≡ Other)
+unfolding wordOf
+words = (refl, refl, refl, refl, refl, refl, refl)

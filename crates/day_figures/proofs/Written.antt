@@ -1,6 +1,6 @@
 -- What a run leaves in the buffer that it hands to the system: the line of the figures of its files, however the reads cut them
 -- (`figures-printed`), and nothing where one of them could not be read or does not leave a byte of the buffer, which has 2,097,153
--- (`lost-unprinted`, `long-lost`).
+-- (`lost-unprinted`, with `failed-lost` and `long-lost`).
 use Prim.Native.Nat.{ℕ, _+_, _-_, _^_, _≤_, _<_}
 use native.Mathlib.Omega.{arith}
 use mathlib.Core.Path.{_≡_, refl, ap, ap₂, subst, _∙_}
@@ -14,6 +14,7 @@ use Rattle.texts.specs.Laying.{Laid}
 use Rattle.streams.specs.System.{IsSent}
 use Rattle.streams.specs.Input.{Incoming, complete, IsWhole, ReadsFile, interruptions}
 use Rattle.streams.proofs.Whole.{whole-file, whole-full}
+use Rattle.quarters.proofs.Days.{tried-whole}
 use Rattle.quarters.specs.Days.{IsDay, AllDays, isWhole, allWhole, answersOf}
 use Rattle.day_figures.specs.Runs.{writtenOf, IsFiguresRun}
 
@@ -23,12 +24,12 @@ use Rattle.day_figures.specs.Runs.{writtenOf, IsFiguresRun}
 pub record Gave {size : ℕ} {d : Incoming} (day : IsDay size d) (file : List ℕ) : Type 0 where
   pub good : day .input .failed ≡ false
   pub rest : List ℕ
-  pub reads : ReadsFile (day .tried .read good .gave) file rest
-  pub enough : length file + interruptions (day .tried .read good .gave) < 2 ^ 64 - 1
+  pub reads : ReadsFile (tried-whole (day .tried) good .gave) file rest
+  pub enough : length file + interruptions (tried-whole (day .tried) good .gave) < 2 ^ 64 - 1
 
 module _ {size : ℕ} {d : Incoming} (day : IsDay size d) (file : List ℕ) (gave : Gave day file) where
   abbrev whole : IsWhole (day .input) (day .bytes)
-  whole = day .tried .read (gave .good)
+  whole = tried-whole (day .tried) (gave .good)
 
   -- one that leaves a byte of the buffer comes whole
   came : length file < size → d ≡ complete file
@@ -42,6 +43,10 @@ module _ {size : ℕ} {d : Incoming} (day : IsDay size d) (file : List ℕ) (gav
       let size-is = day .long in
       let full = whole-full whole file (gave .rest) (gave .reads) (gave .enough) (omega (arith, long, size-is)) in
       ap isWhole (day .is) ∙ ap₂ (λ f l. not f && l) (full .2) (full .1)
+
+-- one that could not be opened, or of which a read failed, neither
+pub failed-lost : (d : Incoming) → d .failed ≡ true → isWhole d ≡ false
+failed-lost d failed = ap (λ f. not f && d .last) failed
 
 -- ---- all of them
 

@@ -13,7 +13,8 @@ abbrev pub allDigits : List ℕ → Bool
 allDigits [] = true
 allDigits (b ∷ bs) = leb 48 b && leb b 57 && allDigits bs
 
--- the number that a word of digits writes, 9 for all above; any other word is none
+-- the number that a word of digits writes, 9 for all above, which are alike (figures/proofs/Claims, `above-eight`); any other word is
+-- none
 unfoldable pub wordOf : List ℕ → Word
 wordOf text = cond (not (eqb (length text) 0) && allDigits text) (Number (min 9 (valueAfter 0 text))) Other
 

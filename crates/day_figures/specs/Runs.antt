@@ -1,5 +1,5 @@
--- A run of the program: each of the named day files is read whole, their page answers are gathered, and the line of their figures is
--- written. Whether a write is taken is the system's.
+-- A run of the program: each of the named day files is tried, their page answers are gathered, and the line of their figures is laid and
+-- handed to the system. Which file a name opens, what a read gives and whether a write is taken is the system's.
 use Prim.Native.Nat.{ℕ}
 use mathlib.Core.Path.{_≡_}
 use mathlib.Core.Bool.{Bool, cond}

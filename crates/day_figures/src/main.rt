@@ -23,7 +23,7 @@ const ANSWERS: usize = 65536;
 // Room for the line: daytext's LONGEST.
 const OUTPUT: usize = 256;
 
-// The bytes of the longest argument that Linux takes.
+// The bytes of the longest argument that Linux takes, with the 0 at its end.
 const WORD: usize = 131072;
 
 // A label, with a name of 4,096 bytes, which no file has.

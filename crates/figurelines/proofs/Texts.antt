@@ -7,16 +7,18 @@ use mathlib.Core.List.{List, [], _++_, append-assoc, append-nil}
 use lib.ListN.{length}
 use borrow.Author.Tests.{lt-ltb, le-ltb}
 use Rattle.snapshot.specs.declared.Refusal.{Refusal}
+use Rattle.snapshot.specs.declared.Refusal.the-variants.{CountRange, NoPage, TooMany}
 use Rattle.snapshot.specs.Refusals.{numberOf}
 use Rattle.fractions.specs.declared.Fraction.{Fraction}
 use Rattle.figures.specs.declared.Figures.{Figures}
 use Rattle.figures.specs.declared.Reckoning.{Reckoning}
+use Rattle.figures.specs.declared.Reckoning.the-variants.{Given, Refused}
 use Rattle.texts.specs.Ascii.{ascii}
-use Rattle.texts.specs.Decimal.{longDecimal}
+use Rattle.texts.specs.Decimal.{decimal, longDecimal}
 use Rattle.texts.specs.Laying.{Laid}
 use Rattle.texts.proofs.Laying.{laid-nothing, laid-as}
 use Rattle.daytext.specs.declared.Line.the-variants as Line
-use Rattle.daytext.specs.Lines.{textOf}
+use Rattle.daytext.specs.Lines.{bodyOf, textOf}
 use Rattle.daytext.specs.Buffer.{longest, laidPlace, laidText}
 use Rattle.daytext.proofs.Room.{laid-with-room}
 use Rattle.figurelines.specs.FigureText.{fractionText, figuresText, reckoningText, laidReckoning}
@@ -63,3 +65,18 @@ pub refusal-laid : (out : List ℕ) → longest ≤ length out → (k : Refusal)
 refusal-laid out room k number is ends lies =
     let laid = laid-with-room (Line.Refused number) [] out 0 (omega arith) (omega (arith, room)) in
     laid-as (ap (λ j. textOf (Line.Refused j) []) is) (record { buffer = lies ∙ laid .1; end = ends ∙ laid .0 })
+
+-- ---- computed
+
+pub lines :
+    (reckoningText 2 (Given (record {
+      pages = 5;
+      mean = record { numerator = 32; denominator = 5 };
+      borrowed = record { numerator = 2; denominator = 5 };
+      largest = 8;
+    })) ≡ ascii "desks 2 pages 5 mean 32/5 borrowed 2/5 largest 8\n")
+    × (reckoningText 9 (Refused CountRange) ≡ ascii "refused 1\n")
+    × (reckoningText 2 (Refused NoPage) ≡ ascii "refused 14\n")
+    × (reckoningText 2 (Refused TooMany) ≡ ascii "refused 15\n")
+unfolding reckoningText figuresText longDecimal textOf bodyOf decimal
+lines = (refl, refl, refl, refl)

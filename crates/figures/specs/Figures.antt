@@ -26,7 +26,7 @@ answerIn row = record { processes = getD row 0 0; lender = getD row 1 0; turns =
 
 -- ---- the sums
 
--- those of days for n
+-- the answers of days for n processes
 abbrev pub answersFor : ℕ → List PageAnswer → List PageAnswer
 answersFor n [] = []
 answersFor n (a ∷ xs) = cond (eqb (a .processes) n) (a ∷ answersFor n xs) (answersFor n xs)

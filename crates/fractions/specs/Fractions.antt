@@ -24,15 +24,15 @@ lowestTerms a b =
     let g = greatestDivisor a b in
     record { numerator = a / g; denominator = b / g }
 
--- ---- what is claimed of these, where b is not 0 (proofs/Divisors)
+-- ---- what is claimed of these (proofs/Divisors)
 
--- g is the greatest common divisor of a and b, however it is found
+-- g is the greatest common divisor of a and b, not both 0, however it is found
 pub record IsGreatestDivisor (g a b : ℕ) : Type 0 where
   pub left : g ∣ a
   pub right : g ∣ b
   pub greatest : (d : ℕ) → d ∣ a → d ∣ b → d ≤ g
 
--- f is a over b "in lowest terms": the same share, its denominator not 0, and no number above 1 divides both its parts
+-- f is a over b, not 0, "in lowest terms": the same share, its denominator not 0, and no number above 1 divides both its parts
 pub record IsLowest (f : Fraction) (a b : ℕ) : Type 0 where
   pub same : f .numerator * b ≡ a * f .denominator
   pub over : 1 ≤ f .denominator

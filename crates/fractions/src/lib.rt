@@ -21,7 +21,7 @@ pub fn gcd(a: u64, b: u64) -> u64
     x
 }
 
-// a over b in lowest terms; 0 over 0 stays.
+// a over b in lowest terms. Over 0 it is 1, or 0 where a is 0 too.
 pub fn lowest(a: u64, b: u64) -> Fraction
     ensures { λ f. ⌜ f ≡ lowestTerms a b ⌝ }
 {

@@ -1,28 +1,39 @@
 -- What is gathered of days that are read one after the other.
-use Prim.Native.Nat.{ℕ, _+_}
+use Prim.Native.Nat.{ℕ, _+_, _≤_}
 use native.Mathlib.Omega.{arith}
-use mathlib.Core.Path.{_≡_, refl, sym, ap, _∙_}
+use mathlib.Core.Path.{_≡_, refl, sym, ap, _∙_, subst}
 use mathlib.Core.Bool.{Bool, true, false, _&&_, true≢false}
 use mathlib.Core.List.{List, [], _∷_, _++_, map, append-assoc, append-nil}
-use lib.ListN.{length-append}
+use lib.IntN.{ℤ, pos, negsuc}
+use lib.ListN.{length, length-append}
 use Rattle.snapshot.proofs.Booleans.{and-both}
 use Rattle.days.specs.Happenings.{dayOf}
 use Rattle.gathering.specs.Answers.{answersIn, quarterOf}
 use Rattle.gathering.specs.Gathered.{withAll}
 use Rattle.gathering.specs.Laps.{gathered}
 use Rattle.gathering.proofs.Passing.{with-both}
-use Rattle.streams.specs.Input.{Incoming}
+use Rattle.streams.specs.declared.input.Input.{Input}
+use Rattle.streams.specs.Input.{Incoming, IsWhole}
 use Rattle.quarters.specs.declared.Quarter.{Quarter}
-use Rattle.quarters.specs.Days.{IsTried, AllDays, isWhole, allWhole, answersOf, IsAdded, IsDayAdded, AreRead}
+use Rattle.quarters.specs.Days.{IsOpened, IsTried, AllDays, isWhole, allWhole, answersOf, IsAdded, IsDayAdded, AreRead}
 
--- a file that could not be opened
-pub unopened : (bytes : List ℕ) → IsTried (record { at = 0; end = 0; last = true; failed = true }) bytes
-unopened bytes =
-    record {
-      within = record { start = omega arith; stop = omega arith };
-      front = refl;
-      read = λ good. absurd (true≢false good);
-    }
+-- ---- one file
+
+-- what was read lies at the front of the buffer
+pub tried-within : {i : Input} {bytes : List ℕ} → IsTried i bytes → (i .at ≡ 0) × (i .end ≤ length bytes)
+tried-within {i} {bytes} t = go (t .opening) (t .opened)
+  where
+    go : (z : ℤ) → IsOpened z i bytes → (i .at ≡ 0) × (i .end ≤ length bytes)
+    go (pos k) whole = (whole .front, whole .within .stop)
+    go (negsuc k) none = (ap (λ j. j .at) none, subst (λ k. k ≤ length bytes) (sym (ap (λ j. j .end) none)) (omega arith))
+
+-- and where nothing failed it was read whole
+pub tried-whole : {i : Input} {bytes : List ℕ} → IsTried i bytes → i .failed ≡ false → IsWhole i bytes
+tried-whole {i} {bytes} t good = go (t .opening) (t .opened)
+  where
+    go : (z : ℤ) → IsOpened z i bytes → IsWhole i bytes
+    go (pos k) whole = whole
+    go (negsuc k) none = absurd (true≢false (sym (ap (λ j. j .failed) none) ∙ good))
 
 -- ---- one day
 

@@ -1,8 +1,9 @@
 -- The days of a quarter: what was read of each file, and that the page answers of all are gathered. What a read gives is the system's.
 use Prim.Native.Nat.{ℕ}
 use mathlib.Core.Path.{_≡_}
-use mathlib.Core.Bool.{Bool, true, false, not, _&&_}
+use mathlib.Core.Bool.{Bool, true, not, _&&_}
 use mathlib.Core.List.{List, [], _∷_, map}
+use lib.IntN.{ℤ, pos, negsuc}
 use lib.ListN.{length}
 use Rattle.figures.specs.Figures.{PageAnswer}
 use Rattle.days.specs.Happenings.{dayOf}
@@ -10,16 +11,20 @@ use Rattle.gathering.specs.Answers.{answersIn, quarterOf}
 use Rattle.gathering.specs.Gathered.{withAll}
 use Rattle.gathering.specs.Laps.{gathered}
 use Rattle.streams.specs.declared.input.Input.{Input}
-use Rattle.streams.specs.Input.{Incoming, incoming, IsWhole, Within}
+use Rattle.streams.specs.Input.{Incoming, incoming, IsWhole}
 use Rattle.quarters.specs.declared.Quarter.{Quarter}
 
 -- ---- what was read
 
--- a file was opened and read into bytes until it ended or they were full, or that failed
+-- what comes of a file whose opening is answered so: below 0 a failure, else what its reads give
+abbrev pub IsOpened : ℤ → Input → List ℕ → Type 0
+IsOpened (pos k) i bytes = IsWhole i bytes
+IsOpened (negsuc k) i bytes = i ≡ record { at = 0; end = 0; last = true; failed = true }
+
+-- a file was opened, or not, and read into bytes
 pub record IsTried (i : Input) (bytes : List ℕ) : Type 0 where
-  pub within : Within i (length bytes)
-  pub front : i .at ≡ 0
-  pub read : i .failed ≡ false → IsWhole i bytes
+  pub opening : ℤ
+  pub opened : IsOpened opening i bytes
 
 -- d came of a file that was tried with a buffer of that size
 pub record IsDay (size : ℕ) (d : Incoming) : Type 0 where
@@ -35,7 +40,7 @@ AllDays size (d ∷ ds) = IsDay size d × AllDays size ds
 
 -- ---- what is made of it
 
--- a day that came whole, and whether all did: "figures that leave out a day silently are worse than none"
+-- a day that came whole, and whether all did
 abbrev pub isWhole : Incoming → Bool
 isWhole d = not (d .failed) && d .last
 

@@ -5,7 +5,7 @@ use streams::input::Input;
 ghost use Prim.Native.Nat.{_-_, _≤_};
 ghost use lib.ListN.{length};
 ghost use Rattle.streams.specs.Input.{incoming};
-ghost use Rattle.quarters.specs.Days.{IsTried, IsAdded, IsDayAdded, AreRead};
+ghost use Rattle.quarters.specs.Days.{IsOpened, IsTried, IsAdded, IsDayAdded, AreRead};
 
 mod messages;
 
@@ -27,12 +27,10 @@ fn name(i: usize, label: &mut [u8]) -> usize
     messages::NAME + k
 }
 
-// Reads the file of that label whole; where that fails, it is told.
-fn read_day(label: &[u8], bytes: &mut [u8]) -> Input
-    requires { ⌜ 25 ≤ length (now label) ⌝ }
-    ensures { λ i. ⌜ IsTried i (now (bytes .exit)) ⌝ }
+// Reads a file whole, which was opened, or else the answer is below 0; where one of both fails, it is told.
+fn read_file(file: i32, label: &[u8], bytes: &mut [u8]) -> Input
+    ensures { λ i. ⌜ IsOpened file i (now (bytes .exit)) ⌝ }
 {
-    let file = os::open_read(&label[messages::NAME..]);
     if file < 0 {
         os::fail(label);
         return Input {
@@ -45,6 +43,15 @@ fn read_day(label: &[u8], bytes: &mut [u8]) -> Input
     let i = input::whole(file, bytes, label);
     libc::close(file);
     i
+}
+
+// Reads the file of that label whole.
+fn read_day(label: &[u8], bytes: &mut [u8]) -> Input
+    requires { ⌜ 25 ≤ length (now label) ⌝ }
+    ensures { λ i. ⌜ IsTried i (now (bytes .exit)) ⌝ }
+{
+    let file = os::open_read(&label[messages::NAME..]);
+    read_file(file, label, bytes)
 }
 
 // Gathers the answers of an input, if it came whole.

@@ -8,7 +8,7 @@ use Rattle.gathering.specs.Gathered.{withAll}
 use Rattle.gathering.specs.Laps.{gathered}
 use Rattle.streams.specs.Input.{incoming}
 use Rattle.streams.proofs.Whole.{front-left}
-use Rattle.quarters.proofs.Days.{day-lost, day-gathered}
+use Rattle.quarters.proofs.Days.{tried-within, day-lost, day-gathered}
 use borrow.Author.Needs.{needs}
 use borrow.Author.Tests.{not-true, not-false}
 use Rattle.quarters.proofs.gather.Statement.{statement}
@@ -31,7 +31,7 @@ returns-2 c =
 slice-aggregate-gather : tie.Need-slice-aggregate-gather
 slice-aggregate-gather c =
     let held = c .before .before .before .before .before .before in
-    sym (length-take-le _ (held .args .bytes .now) (held .pre .1 .within .stop))
+    sym (length-take-le _ (held .args .bytes .now) (tried-within (held .pre .1) .1))
 
 gather-requires : tie.Need-gather-requires
 gather-requires c κs = search needs
@@ -52,7 +52,7 @@ returns-3 c =
     day-gathered (incoming (a .i) (a .bytes .now)) (a .q) (a .answers .now)
     (ap₂ (λ f l. not f && l) (at-failed .if1 .left) (not-false _ (at-last .if2 .left))) _ _
     (at-gather .gather .ensures .0 ∙ ap (λ f. withAll (gathered (a .answers .now) (a .q .count)) (answersIn (dayOf f)))
-    (sym (front-left (a .i) (a .bytes .now) (held .pre .1 .front))))
+    (sym (front-left (a .i) (a .bytes .now) (tried-within (held .pre .1) .0))))
 
 pub gather-spec : {M : Type 1} → statement M
 gather-spec =

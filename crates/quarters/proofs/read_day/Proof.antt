@@ -1,5 +1,6 @@
 -- `quarters::read_day` meets its contract.
-use Rattle.quarters.proofs.Days.{unopened}
+use mir.Syntax.{w32}
+use mir.Val.{toZ, ofZ}
 use borrow.Author.Needs.{needs}
 use Rattle.quarters.proofs.read_day.Statement.{statement}
 use Rattle.quarters.proofs.read_day.Tie as tie
@@ -16,23 +17,16 @@ part-open-read-end c = search needs
 open-read-requires : tie.Need-open-read-requires
 open-read-requires c κs = search needs
 
-fail-requires : tie.Need-fail-requires
-fail-requires c κs = search needs
-
-returns : tie.Need-returns
-returns c = unopened _
-
-whole-requires : tie.Need-whole-requires
-whole-requires c κs = search needs
-
-close-requires : tie.Need-close-requires
-close-requires c κs = search needs
+read-file-requires : tie.Need-read-file-requires
+read-file-requires c κs = search needs
 
 same-length : tie.Need-same-length
 same-length c = search needs
 
-returns-2 : tie.Need-returns-2
-returns-2 c = search needs
+returns : tie.Need-returns
+returns c =
+    let at-read = c .before .before in
+    record { opening = toZ w32 (ofZ w32 (at-read .before .before .open-read .result)); opened = at-read .read-file .ensures }
 
 pub read-day-spec : {M : Type 1} → statement M
 read-day-spec =
@@ -42,9 +36,6 @@ read-day-spec =
     part-open-read-start
     part-open-read-end
     open-read-requires
-    fail-requires
-    returns
-    whole-requires
-    close-requires
+    read-file-requires
     same-length
-    returns-2)
+    returns)
