@@ -27,7 +27,7 @@ fn name(i: usize, label: &mut [u8]) -> usize
     messages::NAME + k
 }
 
-// Reads a file whole, which was opened, or else the answer is below 0; where one of both fails, it is told.
+// Reads the file whole that an opening answered; one that was answered below 0 could not be opened. What fails is told.
 fn read_file(file: i32, label: &[u8], bytes: &mut [u8]) -> Input
     ensures { λ i. ⌜ IsOpened file i (now (bytes .exit)) ⌝ }
 {
