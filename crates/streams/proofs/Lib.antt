@@ -1,4 +1,5 @@
--- What an answer of the system comes to, and reading a whole input.
+-- Whether an answer of the system is below 0 and what it comes to, and reading a whole input.
+pub mod Signs
 pub mod Transfers
 pub mod Refilling
 pub mod Whole

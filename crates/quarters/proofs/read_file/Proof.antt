@@ -1,37 +1,33 @@
 -- `quarters::read_file` meets its contract.
 use Prim.Native.Nat.{ℕ}
 use native.Mathlib.Omega.{arith}
-use mathlib.Core.Path.{_≡_, refl, sym, ap, _∙_}
-use mathlib.Core.Bool.{Bool, true, false, true≢false}
+use mathlib.Core.Path.{_≡_, refl}
+use mathlib.Core.Bool.{true, false, true≢false}
 use mathlib.Core.List.{List}
 use lib.IntN.{ℤ, pos, negsuc}
 use lib.Signed.{ltZ}
 use mir.Syntax.{w32}
 use mir.Val.{SFits, toZ, ofZ}
-use mir.Facts.{toZ-ofZ}
 use borrow.Author.Needs.{needs}
 use borrow.Author.Tests.{ltb-true}
 use Rattle.streams.specs.declared.input.Input.{Input}
 use Rattle.streams.specs.Input.{IsWhole}
+use Rattle.streams.proofs.Signs.{below-zero}
 use Rattle.quarters.specs.Days.{IsOpened}
 use Rattle.quarters.proofs.read_file.Statement.{statement}
 use Rattle.quarters.proofs.read_file.Tie as tie
 
--- the machine compares what it reads back from the bits of a number
 module _ (z : ℤ) (fits : SFits w32 z) (i : Input) (bytes : List ℕ) where
-  below-zero : (b : Bool) → ltZ (toZ w32 (ofZ w32 z)) (pos 0) ≡ b → ltZ z (pos 0) ≡ b
-  below-zero b e = sym (ap (λ y. ltZ y (pos 0)) (toZ-ofZ fits)) ∙ e
-
   unopened : ltZ (toZ w32 (ofZ w32 z)) (pos 0) ≡ true → i ≡ record { at = 0; end = 0; last = true; failed = true } →
       IsOpened z i bytes
-  unopened e none = go z (below-zero true e)
+  unopened e none = go z (below-zero w32 z fits true e)
     where
       go : (z : ℤ) → ltZ z (pos 0) ≡ true → IsOpened z i bytes
       go (pos k) e = let l = ltb-true k 0 e in absurd (omega (arith, l))
       go (negsuc k) e = none
 
   opened : ltZ (toZ w32 (ofZ w32 z)) (pos 0) ≡ false → IsWhole i bytes → IsOpened z i bytes
-  opened e whole = go z (below-zero false e)
+  opened e whole = go z (below-zero w32 z fits false e)
     where
       go : (z : ℤ) → ltZ z (pos 0) ≡ false → IsOpened z i bytes
       go (pos k) e = whole

@@ -1,7 +1,7 @@
 -- `streams::system::meaning` meets its contract.
 use Prim.Native.Nat.{ℕ}
-use mathlib.Core.Path.{_≡_, refl, sym, ap, _∙_}
-use mathlib.Core.Bool.{Bool, true, false, true≢false}
+use mathlib.Core.Path.{_≡_, refl, ap, _∙_}
+use mathlib.Core.Bool.{true, false, true≢false}
 use mathlib.Core.Logic.{_⊎_, inl, inr}
 use native.Mathlib.Omega.{arith}
 use lib.IntN.{ℤ, pos, negsuc}
@@ -15,23 +15,20 @@ use Rattle.io.specs.Counts.{clamped}
 use Rattle.streams.specs.declared.system.Transfer.{Transfer}
 use Rattle.streams.specs.declared.system.Transfer.the-variants.{Bytes, Interrupted, Failed}
 use Rattle.streams.specs.System.{Means}
+use Rattle.streams.proofs.Signs.{below-zero}
 use Rattle.streams.proofs.system.meaning.Statement.{statement}
 use Rattle.streams.proofs.system.meaning.Tie as tie
 
--- the machine compares what it reads back from the bits of a number
 module _ (z : ℤ) (fits : SFits w64 z) (n : ℕ) where
-  below-zero : (b : Bool) → ltZ (toZ w64 (ofZ w64 z)) (pos 0) ≡ b → ltZ z (pos 0) ≡ b
-  below-zero b e = sym (ap (λ y. ltZ y (pos 0)) (toZ-ofZ fits)) ∙ e
-
   means-none : ltZ (toZ w64 (ofZ w64 z)) (pos 0) ≡ true → (t : Transfer) → (t ≡ Interrupted) ⊎ (t ≡ Failed) → Means z n t
-  means-none e t h = go z (below-zero true e)
+  means-none e t h = go z (below-zero w64 z fits true e)
     where
       go : (z : ℤ) → ltZ z (pos 0) ≡ true → Means z n t
       go (pos k) e = let l = ltb-true k 0 e in absurd (omega (arith, l))
       go (negsuc k) e = h
 
   means-some : ltZ (toZ w64 (ofZ w64 z)) (pos 0) ≡ false → (r : ℕ) → r ≡ clamped (toZ w64 (ofZ w64 z)) n → Means z n (Bytes r)
-  means-some e r h = go z (below-zero false e) (h ∙ ap (λ y. clamped y n) (toZ-ofZ fits))
+  means-some e r h = go z (below-zero w64 z fits false e) (h ∙ ap (λ y. clamped y n) (toZ-ofZ fits))
     where
       go : (z : ℤ) → ltZ z (pos 0) ≡ false → r ≡ clamped z n → Means z n (Bytes r)
       go (pos k) e h = ap Bytes h
