@@ -11,6 +11,7 @@ use mathlib.Core.Option.{Option, none, some}
 use lib.ListN.{length}
 use lib.Dec.{T, ltb}
 use borrow.Author.Tests.{ltb-false, eq-eqb, lt-ltb}
+use Rattle.snapshot.specs.Values.{pagePlaces}
 use Rattle.snapshot.specs.Refusals.{Cause, firstCause, isPast}
 use Rattle.snapshot.specs.Requests.{numberIn}
 use Rattle.snapshot.specs.Tally.{scan, update}
@@ -114,9 +115,9 @@ module _ (M : Machine) (s : State (M .Process)) where
         go (Scan d) h = full (idleIn (Scan d)) _ _ (t .scans)
         go (Turn d) h = refl
 
--- ---- the day's refusal, for a machine whose page takes n places
+-- ---- the day's refusal, for a machine whose page takes the places of n values
 
-module _ (M : Machine) (lengths : (n : ℕ) → M .pageLength n ≡ n) (s : State (M .Process)) (page : List ℕ) where
+module _ (M : Machine) (lengths : (n : ℕ) → M .pageLength n ≡ pagePlaces n) (s : State (M .Process)) (page : List ℕ) where
   refusal-parts : (x : Request) → T (not (isOpening x)) →
       refusal M s (itemOf page x) ≡ firstCause (firstOf M s page x ++ lastOf M s x)
   unfolding refusal
@@ -146,9 +147,9 @@ module _ (M : Machine) (lengths : (n : ℕ) → M .pageLength n ≡ n) (s : Stat
         ∙ first-none (firstOf M s page x) (lastOf M s x) (first-same M s v surveyed page x ∙ q)
         ∙ last-same M s v surveyed page x item (first-passes q))
 
-  -- of an accepted turn: the page list has a word for each process, and the process is not idle
+  -- of an accepted turn: the page list has room for a page, and the process is not idle
   pub accepted-turn : (x : Request) → T (not (isOpening x)) → T (not (isCall x)) → refusal M s (itemOf page x) ≡ none →
-      Passed M s page x × (s .day .count ≤ length page) × (idleIn M s x ≡ false)
+      Passed M s page x × (pagePlaces (s .day .count) ≤ length page) × (idleIn M s x ≡ false)
   unfolding refusal
   accepted-turn (Open k) h c q = absurd h
   accepted-turn (Update d w) h c q = absurd c
@@ -156,7 +157,7 @@ module _ (M : Machine) (lengths : (n : ℕ) → M .pageLength n ≡ n) (s : Stat
   accepted-turn (Turn d) h c q =
       let a = admitted-turn M s d page q in
       let fits = subst (λ k. Suited M s d (ltb (length page) k)) (lengths (s .day .count)) (a .suited) in
-      (fits, ltb-false (length page) (s .day .count) (fits .long), a .busy)
+      (fits, ltb-false (length page) (pagePlaces (s .day .count)) (fits .long), a .busy)
 
   -- there is an event left: by 5 for a call, and by 11 for a turn, where a record that is busy and can have arisen owes one
   module _ (owes : (n e : ℕ) (p : M .Process) → M .isIdle p ≡ false → M .unsound n e p ≡ false → 0 < processOwes M n p) where

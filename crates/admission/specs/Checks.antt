@@ -7,6 +7,7 @@ use mathlib.Core.Option.{Option, none, some}
 use lib.Dec.{eqb, ltb}
 use Rattle.snapshot.specs.Refusals.{Cause, firstCause, outside, isPast}
 use Rattle.snapshot.specs.Requests.{numberIn}
+use Rattle.snapshot.specs.Values.{pagePlaces}
 use Rattle.snapshot.specs.Days.{cannotArise}
 use Rattle.snapshot.specs.declared.Day.{Day}
 use Rattle.snapshot.specs.declared.Request.{Request}
@@ -34,9 +35,9 @@ abbrev pub openingChecks : Day → (size k : ℕ) → List Cause
 openingChecks day size k =
     (not (eqb (day .count) 0), OpenState) ∷ (outside 1 8 k, CountRange) ∷ (not (eqb size k), LentSize) ∷ []
 
--- 6: "on a turn, the page list has fewer than n words" (an opening, of which it is not asked, counts as a turn)
+-- 6: "on a turn, the page list has fewer than n words", by K6 fewer than 2n (an opening, of which it is not asked, counts as a turn)
 abbrev pub isShort : Day → (words : ℕ) → Request → Bool
-isShort day words x = not (isCall x) && ltb words (day .count)
+isShort day words x = not (isCall x) && ltb words (pagePlaces (day .count))
 
 -- "For calls and turns: 10, 6, 11, 2 ..": of process d, by whether the page list is short, the event that all work ends by, and
 -- whether some record is bad

@@ -57,7 +57,7 @@ fn is_short(day: Day, words: usize, x: Request) -> bool
     if requests::is_call(x) {
         return false;
     }
-    words < day.count as usize
+    words < 2 * (day.count as usize)
 }
 
 // The refusals of an opening for k processes: 10, 1, 6.

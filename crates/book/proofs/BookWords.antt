@@ -4,6 +4,8 @@ use mathlib.Core.Path.{_≡_, _∙_}
 use mathlib.Core.List.{List, [], _∷_, map}
 use mathlib.Core.Option.{Option, none, some}
 use lib.ListN.{length, length-map}
+use Rattle.snapshot.specs.declared.Value.{Value}
+use Rattle.snapshot.specs.Values.{zeroValue, stored}
 use Rattle.snapshot.specs.Lists.{All, places, place}
 use Rattle.snapshot.specs.Tally.{Job, scan, update, Seen, opening, call, turn, Call, Tally, started, callOf, tallied}
 use Rattle.snapshot.specs.Demand.{IsUpdate, WrittenFits}
@@ -44,8 +46,8 @@ module _ (n : ℕ) where
         go (update i w) u = tt
 
   module _ (most : Job → ℕ) where
-    answer-shown : (t : Tally ℕ) (x : Seen) (ws : List ℕ) (a : Answer) → Tells n most (λ e w. w) t x ws a → WordsOf n ws a →
-        All Shown (finishedBy (λ w. w) t x ws a)
+    answer-shown : (t : Tally Value) (x : Seen) (ws : List Value) (a : Answer) → Tells n most stored t x ws a → WordsOf n ws a →
+        All Shown (finishedBy (λ v. v .word) t x ws a)
     answer-shown t x ws (Refused k) f long = tt
     answer-shown t x ws Opened f long = tt
     answer-shown t x ws Called f long = tt
@@ -53,17 +55,17 @@ module _ (n : ℕ) where
     answer-shown t opening ws (Page lender at turns) f long = tt
     answer-shown t (call d j) ws (Page lender at turns) f long = tt
     answer-shown t (turn d) ws (Page lender at turns) f long =
-        page-shown d at _ (map (λ w. w) ws) (length-map ws (λ w. w) ∙ long) (callOf t d)
+        page-shown d at _ (map (λ v. v .word) ws) (length-map ws (λ v. v .word) ∙ long) (callOf t d)
     answer-shown t opening ws (Written turns) f long = tt
     answer-shown t (call d j) ws (Written turns) f long = tt
     answer-shown t (turn d) ws (Written turns) f long = written-shown d _ _ most turns (callOf t d) (f .1)
 
-    finished-shown : (t : Tally ℕ) (hs : List (Heard ℕ)) → Follows n most (λ e w. w) t hs →
-        All (λ h. WordsOf n (h .shown) (h .answer)) hs → All Shown (finished (λ e w. w) (λ w. w) t hs)
+    finished-shown : (t : Tally Value) (hs : List (Heard Value)) → Follows n most stored t hs →
+        All (λ h. WordsOf n (h .shown) (h .answer)) hs → All Shown (finished stored (λ v. v .word) t hs)
     finished-shown t [] f long = tt
     finished-shown t (h ∷ hs) f long =
-        let u = tallied (λ e w. w) t (h .seen) (h .answer) in
-        all-append Shown (finishedBy (λ w. w) t (h .seen) (h .shown) (h .answer)) (finished (λ e w. w) (λ w. w) u hs)
+        let u = tallied stored t (h .seen) (h .answer) in
+        all-append Shown (finishedBy (λ v. v .word) t (h .seen) (h .shown) (h .answer)) (finished stored (λ v. v .word) u hs)
         (answer-shown t (h .seen) (h .shown) (h .answer) (f .0) (long .0)) (finished-shown u hs (f .1) (long .1))
 
   places-shown : (os b : List Operation) → All Shown os → All Shown b → All Shown (places (λ o. o .number) os b)
@@ -74,4 +76,4 @@ pub book-words : (bs : List ℕ) → All (λ o. ShowsWords (processesIn bs) (o .
 unfolding bookIn
 book-words bs =
     let n = processesIn bs in
-    places-shown n (finishedIn bs) [] (finished-shown n _ (started n n 0) (heardIn bs) (day-follows bs) (page-words bs)) tt
+    places-shown n (finishedIn bs) [] (finished-shown n _ (started n n zeroValue) (heardIn bs) (day-follows bs) (page-words bs)) tt

@@ -3,6 +3,7 @@ use Prim.Native.Nat.{ℕ, zero, suc}
 use mathlib.Core.Path.{_≡_, refl}
 use mathlib.Core.List.{List, [], _∷_, _++_, map}
 use lib.ListN.{replicate}
+use Rattle.snapshot.specs.Values.{listed}
 use Rattle.snapshot.specs.Demand.{step}
 use Rattle.snapshot.specs.Verdict.{verdict}
 use Rattle.snapshot.specs.Marks.{isMoved, withMoved, lends}
@@ -79,14 +80,14 @@ pub books :
     ∷ (32 ∷ 3 ∷ 1 ∷ 0 ∷ 0 ∷ 5 ∷ zeros 5)
     ∷ (36 ∷ 2 ∷ 3 ∷ 6 ∷ zeros 7)
     ∷ [])
-unfolding bookIn dayOf readings readingsUpTo reading recordOf lengthOf lentTo Days.stepped step verdict laid readInto cleared pageOf differs isMoved withMoved lends begin position placeAt firstAfter secondAfter endAfter decision marksAfter afterRead foundBy written turned mostReads isPast unsound refusal advance openedBy calledBy turnBy accept
+unfolding bookIn dayOf readings readingsUpTo reading recordOf lengthOf lentTo Days.stepped step verdict laid readInto cleared pageOf differs isMoved withMoved lends begin position placeAt firstAfter secondAfter endAfter decision marksAfter afterRead foundBy written turned listed mostReads isPast unsound refusal advance openedBy calledBy turnBy accept
 books = (refl, refl, refl, refl, refl, refl)
 
 -- the numbers of the call, the place and the answer of each operation
 pub numbers :
     map (λ o. o .called ∷ o .number ∷ o .answered ∷ []) (bookIn caseB)
     ≡ (4 ∷ 9 ∷ 9 ∷ []) ∷ (1 ∷ 16 ∷ 21 ∷ []) ∷ (14 ∷ 19 ∷ 19 ∷ []) ∷ []
-unfolding bookIn dayOf readings readingsUpTo reading recordOf lengthOf lentTo Days.stepped step verdict laid readInto cleared pageOf differs isMoved withMoved lends begin position placeAt firstAfter secondAfter endAfter decision marksAfter afterRead foundBy written turned mostReads isPast unsound refusal advance openedBy calledBy turnBy accept
+unfolding bookIn dayOf readings readingsUpTo reading recordOf lengthOf lentTo Days.stepped step verdict laid readInto cleared pageOf differs isMoved withMoved lends begin position placeAt firstAfter secondAfter endAfter decision marksAfter afterRead foundBy written turned listed mostReads isPast unsound refusal advance openedBy calledBy turnBy accept
 numbers = refl
 
 -- a book of one place is too short for case A, and the place behind its two stays as it is
@@ -96,5 +97,5 @@ pub rooms :
     × (bookingOf (bookIn caseA) (processesIn caseA) 2 ≡ Written 2 1)
     × (bookWith (bookIn caseA) ((1 ∷ []) ∷ (2 ∷ []) ∷ (3 ∷ []) ∷ []) ≡ placesA ++ ((3 ∷ []) ∷ []))
     × (bookWith (bookIn caseA) ((1 ∷ []) ∷ []) ≡ (1 ∷ []) ∷ [])
-unfolding bookIn dayOf readings readingsUpTo reading recordOf lengthOf lentTo Days.stepped step verdict laid readInto cleared pageOf differs isMoved withMoved lends begin position placeAt firstAfter secondAfter endAfter decision marksAfter afterRead foundBy written turned mostReads isPast unsound refusal advance openedBy calledBy turnBy accept
+unfolding bookIn dayOf readings readingsUpTo reading recordOf lengthOf lentTo Days.stepped step verdict laid readInto cleared pageOf differs isMoved withMoved lends begin position placeAt firstAfter secondAfter endAfter decision marksAfter afterRead foundBy written turned listed mostReads isPast unsound refusal advance openedBy calledBy turnBy accept
 rooms = (refl, refl, refl, refl, refl)

@@ -5,7 +5,8 @@ use Rattle.book.proofs.notes.Notes.Laws as N′
 use Rattle.walks.proofs.Data.{spelled}
 use Rattle.walks.proofs.Declared.{a-struct}
 use Rattle.walks.proofs.Walking.{Datum, Has, its, an-array, a-u32}
-use Rattle.memory.proofs.Types.{a-process, a-day}
+use Rattle.unbounded_own.proofs.Types.{a-process}
+use Rattle.memory.proofs.Types.{a-day}
 
 abbrev pub a-table : Datum
 a-table = an-array a-process 8

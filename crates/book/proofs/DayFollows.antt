@@ -7,6 +7,8 @@ use mathlib.Core.List.{List, [], _∷_, map}
 use mathlib.Core.Option.{Option, none, some}
 use lib.Dec.{T}
 use lib.ListN.{length, take}
+use Rattle.snapshot.specs.declared.Value.{Value}
+use Rattle.snapshot.specs.Values.{zeroValue, stored, pagePlaces, wordsIn, lastsIn, paired, valuesIn}
 use Rattle.snapshot.specs.Tally.{Job, scan, update, Seen, call, Tally, started, tallied}
 use Rattle.snapshot.specs.Demand.{Holds}
 use Rattle.snapshot.specs.Days as Days
@@ -18,6 +20,7 @@ use Rattle.snapshot.specs.declared.Request.{Request}
 use Rattle.snapshot.specs.declared.Request.the-variants.{Open, Update, Scan, Turn}
 use Rattle.snapshot.specs.declared.Answer.{Answer}
 use Rattle.snapshot.specs.declared.Answer.the-variants as Answers
+use Rattle.snapshot.proofs.Values.{values-in-front}
 use Rattle.snapshot.proofs.Stepped.{stepped-is-step, acceptance-does}
 use Rattle.snapshot.proofs.Follows.{Tells, Follows, holds-follows}
 use Rattle.dayfile.specs.Files.{readings}
@@ -39,21 +42,21 @@ use Rattle.days.proofs.Boxes.{refused-answer, refused-stays, size-stays, lent-a
 -- ---- what is claimed, of any readings on any box
 
 -- what is heard of them, and the number of processes once they happened
-abbrev heardFrom : Box → List Reading → List (Heard ℕ)
+abbrev heardFrom : Box → List Reading → List (Heard Value)
 heardFrom b xs = map heardOf (recordsIn (happenings b xs))
 
 abbrev countAfter : Box → List Reading → ℕ
 countAfter b xs = dayAfter (b .day) (happenings b xs) .count
 
--- what an answer tells on a day for n, whose registers hold the words themselves, and the tally after it
-abbrev TellsAt : ℕ → Tally ℕ → Seen → List ℕ → Answer → Type 0
-TellsAt n t x ws a = Tells n (mostTurns n) (λ e w. w) t x ws a
+-- what an answer tells on a day for n, and the tally after it
+abbrev TellsAt : ℕ → Tally Value → Seen → List Value → Answer → Type 0
+TellsAt n t x ws a = Tells n (mostTurns n) stored t x ws a
 
-abbrev tallyBy : Tally ℕ → Seen → Answer → Tally ℕ
-tallyBy t x a = tallied (λ e w. w) t x a
+abbrev tallyBy : Tally Value → Seen → Answer → Tally Value
+tallyBy t x a = tallied stored t x a
 
 -- the day's event number after each record is the tally's
-abbrev pub Numbered : Tally ℕ → List Happening → Type 0
+abbrev pub Numbered : Tally Value → List Happening → Type 0
 Numbered t [] = Unit {0}
 Numbered t (h ∷ hs) =
     let u = tallyBy t (heardOf h .seen) (heardOf h .answer) in
@@ -61,15 +64,15 @@ Numbered t (h ∷ hs) =
 
 -- of a day for n, where the tally stands at t: the day is for n at the end, what is heard follows the tally, and the tally's
 -- numbers are the day's
-record Told (n : ℕ) (t : Tally ℕ) (b : Box) (xs : List Reading) : Type 0 where
+record Told (n : ℕ) (t : Tally Value) (b : Box) (xs : List Reading) : Type 0 where
   few : n ≤ 8
   count : countAfter b xs ≡ n
-  follows : Follows n (mostTurns n) (λ e w. w) t (heardFrom b xs)
+  follows : Follows n (mostTurns n) stored t (heardFrom b xs)
   numbered : Numbered t (recordsIn (happenings b xs))
 
 -- ---- one reading more in front
 
-module _ (n : ℕ) (t : Tally ℕ) (b : Box) (xs : List Reading) where
+module _ (n : ℕ) (t : Tally Value) (b : Box) (xs : List Reading) where
   -- a record that is told of
   told-more : (r : Request) (next : ℕ) → let x = Found r next in let h = heardOf (happeningIn b x) in
       TellsAt n t (h .seen) (h .shown) (h .answer) → boxAfter b x .day .event ≡ tallyBy t (h .seen) (h .answer) .event →
@@ -110,24 +113,28 @@ module _ (n : ℕ) (t : Tally ℕ) (b : Box) (xs : List Reading) where
 -- ---- a day that is open
 
 -- a box on a day for n, where the tally stands at t
-record InDay (n : ℕ) (b : Box) (t : Tally ℕ) : Type 0 where
+record InDay (n : ℕ) (b : Box) (t : Tally Value) : Type 0 where
   opened : 0 < n
   few : n ≤ 8
   count : b .day .count ≡ n
   size : length (b .table) ≡ 8
   holds : (items : List Item) → Holds (method ascending n) (lending b n) t items
 
--- of a call nothing is told that looks at the words of a page
-call-tells : (n : ℕ) (t : Tally ℕ) (d : ℕ) (j : Job) (vs ws : List ℕ) (a : Answer) → TellsAt n t (call d j) vs a →
-    TellsAt n t (call d j) ws a
-call-tells n t d j vs ws (Answers.Refused k) f = f
-call-tells n t d j vs ws Answers.Opened f = f
-call-tells n t d j vs ws Answers.Called f = f
-call-tells n t d j vs ws Answers.Read f = f
-call-tells n t d j vs ws (Answers.Page lender at turns) f = f
-call-tells n t d j vs ws (Answers.Written turns) f = f
+-- of a call nothing is told that looks at the values of a page
+call-tells : (n : ℕ) (t : Tally Value) (d : ℕ) (j : Job) (us vs : List Value) (a : Answer) → TellsAt n t (call d j) us a →
+    TellsAt n t (call d j) vs a
+call-tells n t d j us vs (Answers.Refused k) f = f
+call-tells n t d j us vs Answers.Opened f = f
+call-tells n t d j us vs Answers.Called f = f
+call-tells n t d j us vs Answers.Read f = f
+call-tells n t d j us vs (Answers.Page lender at turns) f = f
+call-tells n t d j us vs (Answers.Written turns) f = f
 
-module _ (n : ℕ) (b : Box) (t : Tally ℕ) (i : InDay n b t) where
+module _ (n : ℕ) (b : Box) (t : Tally Value) (i : InDay n b t) where
+  -- the values that a page list shows
+  abbrev shownIn : List ℕ → List Value
+  shownIn page = valuesIn n (take (pagePlaces n) page)
+
   is-open : 0 < b .day .count
   is-open = let c = i .count in let l = i .opened in omega arith
 
@@ -145,10 +152,10 @@ module _ (n : ℕ) (b : Box) (t : Tally ℕ) (i : InDay n b t) where
     lent-holds : (items : List Item) → Holds (method ascending n) (lent b r) t items
     lent-holds items = subst (λ k. Holds (method ascending n) (lending b k) t items) (sym all-lent) (i .holds items)
 
-    -- demand 3 says what it tells, the words of a page being the first n of the page list
-    item-tells : TellsAt n t (sees x) (take n (result b r .page)) (result b r .answer)
+    -- demand 3 says what it tells, the values of a page being those that its page list shows
+    item-tells : TellsAt n t (sees x) (shownIn (result b r .page)) (result b r .answer)
     item-tells =
-        subst (λ z. TellsAt n t (sees x) (take n (z .page)) (z .answer)) (sym (stepped-is-step (figure3 ascending) (lent b r) x n))
+        subst (λ z. TellsAt n t (sees x) (shownIn (z .page)) (z .answer)) (sym (stepped-is-step (figure3 ascending) (lent b r) x n))
         (holds-follows (method ascending n) (lent b r) t (x ∷ []) (lent-holds (x ∷ [])) .0)
 
     -- and goes on
@@ -171,25 +178,27 @@ module _ (n : ℕ) (b : Box) (t : Tally ℕ) (i : InDay n b t) where
               (sym (ap (lending after) (sym all-lent) ∙ lent-after b r next (i .size))) (item-holds items);
         }
 
-  -- what a record tells: the words shown are looked at only where they are those of a page
+  -- what a record tells: the values shown are looked at only where they are those of a page
   record-tells : (r : Request) → T (not (isOpening r)) → (next : ℕ) → let h = heardOf (happeningIn b (Found r next)) in
       TellsAt n t (h .seen) (h .shown) (h .answer)
   record-tells (Open k) o next = absurd o
   record-tells (Update d w) o next =
       let r = Update d w in
       let z = result b r in
-      call-tells n t d (update d w) (take n (z .page)) (happeningIn b (Found r next) .words) (z .answer) (item-tells r o next)
+      call-tells n t d (update d w) (shownIn (z .page)) (heardOf (happeningIn b (Found r next)) .shown) (z .answer) (item-tells r o next)
   record-tells (Scan d) o next =
       let r = Scan d in
       let z = result b r in
-      call-tells n t d scan (take n (z .page)) (happeningIn b (Found r next) .words) (z .answer) (item-tells r o next)
+      call-tells n t d scan (shownIn (z .page)) (heardOf (happeningIn b (Found r next)) .shown) (z .answer) (item-tells r o next)
   record-tells (Turn d) o next =
       let r = Turn d in
       let z = result b r in
-      subst (λ k. TellsAt n t (sees (item b r)) (take k (z .page)) (z .answer)) (sym (count-after r o next)) (item-tells r o next)
+      subst (λ k. TellsAt n t (sees (item b r)) (paired (wordsIn k (z .page)) (lastsIn k (z .page))) (z .answer))
+      (sym (count-after r o next))
+      (subst (λ vs. TellsAt n t (sees (item b r)) vs (z .answer)) (values-in-front n (z .page)) (item-tells r o next))
 
 -- demand 3, record by record; a further opening is refused
-in-day-told : (n : ℕ) (b : Box) (t : Tally ℕ) (xs : List Reading) → InDay n b t → Told n t b xs
+in-day-told : (n : ℕ) (b : Box) (t : Tally Value) (xs : List Reading) → InDay n b t → Told n t b xs
 in-day-told n b t [] i =
     record { few = i .few; count = i .count; follows = tt; numbered = tt }
 in-day-told n b t (End ∷ xs) i = told-unread n t b xs (in-day-told n b t xs i) End tt
@@ -234,7 +243,7 @@ module _ (b : Box) (u : Unopened b) where
         let l = opening-opens ascending (lent b (Open k)) k q in
         ap (lending begun) (sym (lent-to-opening (b .day) k (l .2))) ∙ lent-after b (Open k) next (u .size) ∙ opened-state
 
-    in-day-begun : InDay k begun (started k k 0)
+    in-day-begun : InDay k begun (started k k zeroValue)
     unfolding Days.openedFor
     in-day-begun =
         let l = opening-opens ascending (lent b (Open k)) k q in
@@ -243,7 +252,7 @@ module _ (b : Box) (u : Unopened b) where
           few = l .2;
           count = ap (λ s. s .day .count) opened-state;
           size = size-stays b (Open k) next ∙ u .size;
-          holds = λ items. subst (λ s. Holds (method ascending k) s (started k k 0) items) (sym begun-state)
+          holds = λ items. subst (λ s. Holds (method ascending k) s (started k k zeroValue) items) (sym begun-state)
               (demand3 k (l .1) (l .2) items);
         }
 
@@ -251,9 +260,9 @@ module _ (b : Box) (u : Unopened b) where
     unfolding accept
     opened-answer = ap (λ z. z .answer) (acceptance-does (figure3 ascending) (lent b (Open k)) (openFor k) q)
 
-    told-opened : (xs : List Reading) → Told k (started k k 0) b (Found (Open k) next ∷ xs)
+    told-opened : (xs : List Reading) → Told k (started k k zeroValue) b (Found (Open k) next ∷ xs)
     told-opened xs =
-        let t : Tally ℕ = started k k 0 in
+        let t : Tally Value = started k k zeroValue in
         told-silent k t b xs (Open k) next Answers.Opened opened-answer tt refl (in-day-begun .holds [] .0)
         (in-day-told k begun t xs in-day-begun)
 
@@ -266,11 +275,11 @@ module _ (b : Box) (u : Unopened b) where
 
   -- for some number of processes
   abbrev ToldForSome : List Reading → Type 0
-  ToldForSome xs = (n : ℕ) × Told n (started n n 0) b xs
+  ToldForSome xs = (n : ℕ) × Told n (started n n zeroValue) b xs
 
   first-told : (r : Request) (next : ℕ) (xs : List Reading) (c : Option Refusal) → refusalIn (lent b r) (item b r) ≡ c →
       ToldForSome xs → ToldForSome (Found r next ∷ xs)
-  first-told r next xs (some k) q (n, w) = (n, told-refused n (started n n 0) b xs w (u .event) r next k q)
+  first-told r next xs (some k) q (n, w) = (n, told-refused n (started n n zeroValue) b xs w (u .event) r next k q)
   first-told (Open k) next xs none q w = (k, told-opened k next q xs)
   first-told (Update d v) next xs none q w = absurd (others-refused (Update d v) tt q)
   first-told (Scan d) next xs none q w = absurd (others-refused (Scan d) tt q)
@@ -279,23 +288,23 @@ module _ (b : Box) (u : Unopened b) where
   -- what comes before the opening is refused
   unopened-told : (xs : List Reading) → ToldForSome xs
   unopened-told [] = (0, record { few = omega arith; count = u .closed; follows = tt; numbered = tt })
-  unopened-told (End ∷ xs) = let w = unopened-told xs in (w .0, told-unread (w .0) (started (w .0) (w .0) 0) b xs (w .1) End tt)
+  unopened-told (End ∷ xs) = let w = unopened-told xs in (w .0, told-unread (w .0) (started (w .0) (w .0) zeroValue) b xs (w .1) End tt)
   unopened-told (Refused k ∷ xs) =
       let w = unopened-told xs in
-      (w .0, told-unread (w .0) (started (w .0) (w .0) 0) b xs (w .1) (Refused k) tt)
+      (w .0, told-unread (w .0) (started (w .0) (w .0) zeroValue) b xs (w .1) (Refused k) tt)
   unopened-told (Found r next ∷ xs) = first-told r next xs (refusalIn (lent b r) (item b r)) refl (unopened-told xs)
 
 -- ---- a day file
 
 -- the number of processes is that of the day at the end
-file-told : (bs : List ℕ) → let n = processesIn bs in Told n (started n n 0) blankBox (readings bs)
+file-told : (bs : List ℕ) → let n = processesIn bs in Told n (started n n zeroValue) blankBox (readings bs)
 unfolding dayOf
 file-told bs =
     let w = unopened-told blankBox (record { closed = refl; event = refl; size = refl }) (readings bs) in
-    subst (λ n. Told n (started n n 0) blankBox (readings bs)) (sym (w .1 .count)) (w .1)
+    subst (λ n. Told n (started n n zeroValue) blankBox (readings bs)) (sym (w .1 .count)) (w .1)
 
 -- every answer of a day file fits the tally
-pub day-follows : (bs : List ℕ) → let n = processesIn bs in Follows n (mostTurns n) (λ e w. w) (started n n 0) (heardIn bs)
+pub day-follows : (bs : List ℕ) → let n = processesIn bs in Follows n (mostTurns n) stored (started n n zeroValue) (heardIn bs)
 unfolding dayOf
 day-follows bs = file-told bs .follows
 

@@ -9,6 +9,7 @@ use mathlib.Core.List.{List, [], _∷_}
 use mathlib.Core.Option.{Option, none, some, Option·none-ne-some}
 use lib.ListN.{length, take, drop, take-append-drop}
 use borrow.Author.Tests.{ne-eqb}
+use Rattle.snapshot.specs.declared.Value.{Value}
 use Rattle.snapshot.specs.Lists.{sumOf}
 use Rattle.snapshot.specs.Refusals.{firstCause}
 use Rattle.snapshot.specs.Tally.{Job, scan, update}
@@ -164,7 +165,7 @@ module _ (o : Order) (n : ℕ) where
       (ne-eqb (0 % (2 * n) + 1) (2 * n) (λ q. omega (arith, zero-mod (2 * n))))
 
   module _ (now : ℕ) (r : Register) (page : List ℕ) (p : Process) where
-    abbrev finds : (turns : ℕ) → Option (Finding ℕ)
+    abbrev finds : (turns : ℕ) → Option (Finding Value)
     finds t = foundBy o n now (position n t) r p
 
     -- so a first turn finds no page
@@ -176,13 +177,13 @@ module _ (o : Order) (n : ℕ) where
     abbrev Leaves : Task → Result Process → Type 0
     Leaves k z = 3 * finishes (z .answer) + hadOf (z .state) ≤ hadBy k + 1
 
-    scan-leaves : (t : ℕ) (f : Option (Finding ℕ)) → finds t ≡ f → Leaves (Scan t) (scanTurn o n now r page p t f)
+    scan-leaves : (t : ℕ) (f : Option (Finding Value)) → finds t ≡ f → Leaves (Scan t) (scanTurn o n now r page p t f)
     unfolding afterRead begin
     scan-leaves t none q = omega (arith, one-or-two t, one-or-two (t + 1))
     scan-leaves zero (some f) q = absurd (Option·none-ne-some f (sym first-finds-none ∙ q))
     scan-leaves (suc t) (some f) q = omega arith
 
-    update-leaves : (w t : ℕ) (f : Option (Finding ℕ)) → Leaves (Update w t) (updateTurn o n now r page p w t f)
+    update-leaves : (w t : ℕ) (f : Option (Finding Value)) → Leaves (Update w t) (updateTurn o n now r page p w t f)
     unfolding afterRead
     update-leaves w t none = omega (arith, one-or-two t, one-or-two (t + 1))
     update-leaves w t (some f) = omega (arith, one-or-two t)

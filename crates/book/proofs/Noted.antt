@@ -11,6 +11,8 @@ use mathlib.Core.Option.{Option, none, some, Option·map, Option·none-ne-some, 
 use lib.Dec.{leb}
 use lib.ListN.{length, getD, set, drop, length-map, length-drop, length-set, length-replicate, getD-replicate}
 use lib.Seq.{drop-drop, getD-set-same, getD-set-other}
+use Rattle.snapshot.specs.declared.Value.{Value}
+use Rattle.snapshot.specs.Values.{zeroValue, stored, paired}
 use Rattle.snapshot.specs.Lists.{Pairs, place, places}
 use Rattle.snapshot.specs.Tally.{Job, scan, update, Seen, Call, Tally, started, callOf, advanced, opens, gains, puts, putsIf, tallied}
 use Rattle.snapshot.specs.Demand.{Among, PageFits, WrittenFits, IsUpdate, Waiting}
@@ -21,6 +23,7 @@ use Rattle.snapshot.specs.declared.Answer.{Answer}
 use Rattle.snapshot.specs.declared.Answer.the-variants.{Refused, Opened, Called, Read, Page, Written}
 use Rattle.snapshot.specs.declared.Request.{Request}
 use Rattle.snapshot.specs.declared.Request.the-variants.{Open, Update, Scan, Turn}
+use Rattle.snapshot.proofs.Values.{words-paired}
 use Rattle.snapshot.proofs.Placing.{up-place, map-place, places-append}
 use Rattle.snapshot.proofs.Booked.{Sane, sane-advanced, call-own, call-other}
 use Rattle.snapshot.proofs.Follows.{Tells, Follows}
@@ -81,12 +84,8 @@ abbrev wordIn : Job → ℕ
 wordIn scan = 0
 wordIn (update k w) = w
 
-map-same : (ws : List ℕ) → map (λ w. w) ws ≡ ws
-map-same [] = refl
-map-same (w ∷ ws) = ap {B = List ℕ} (λ r. w ∷ r) (map-same ws)
-
 module _ (n : ℕ) (few : n ≤ 8) (before : List (List ℕ)) where
-  record Tied (t : Tally ℕ) (b : List Operation) (s : Noted) : Type 0 where
+  record Tied (t : Tally Value) (b : List Operation) (s : Noted) : Type 0 where
     sane : Sane n t
     count : s .count ≡ length b
     ascending : Pairs Up (map placeOf b)
@@ -95,7 +94,7 @@ module _ (n : ℕ) (few : n ≤ 8) (before : List (List ℕ)) where
     kept : (d : ℕ) (c : Call) (k w : ℕ) → Among n d → callOf t d ≡ some c → c .job ≡ update k w → wordOf (s .words) d ≡ w
 
   -- an operation more
-  module _ {t : Tally ℕ} {b : List Operation} {s : Noted} (i : Tied t b s) (ws : List ℕ) (d : ℕ) (m : Among n d) (o : Operation) where
+  module _ {t : Tally Value} {b : List Operation} {s : Noted} (i : Tied t b s) (ws : List Value) (d : ℕ) (m : Among n d) (o : Operation) where
     answered-tied : Tied (advanced t ws d none) (place (λ x. x .number) o b)
         (record { words = s .words; count = s .count + 1; book = putIn (placeOf o) (s .count) (s .book) })
     answered-tied =
@@ -114,7 +113,7 @@ module _ (n : ℕ) (few : n ≤ 8) (before : List (List ℕ)) where
         }
 
   -- a call, or a turn that goes on
-  module _ {t : Tally ℕ} {b : List Operation} {s : Noted} (i : Tied t b s) (d : ℕ) (m : Among n d) (o : Option Call) (words : List ℕ)
+  module _ {t : Tally Value} {b : List Operation} {s : Noted} (i : Tied t b s) (d : ℕ) (m : Among n d) (o : Option Call) (words : List ℕ)
       (long : length words ≡ 8) where
     event-tied : ((c : Call) (k w : ℕ) → o ≡ some c → c .job ≡ update k w → wordOf words d ≡ w) →
         ((j : ℕ) → Among n j → j ≢ d → wordOf words j ≡ wordOf (s .words) j) →
@@ -143,18 +142,21 @@ module _ (n : ℕ) (few : n ≤ 8) (before : List (List ℕ)) where
       }
 
   -- the tally and the book after it
-  abbrev tally-with : Tally ℕ → Seen → Answer → Tally ℕ
-  tally-with t x a = tallied (λ e w. w) t x a
+  abbrev tally-with : Tally Value → Seen → Answer → Tally Value
+  tally-with t x a = tallied stored t x a
 
-  abbrev book-with : Tally ℕ → List Operation → Seen → List ℕ → Answer → List Operation
-  book-with t b x shown a = places (λ o. o .number) (finishedBy (λ w. w) t x shown a) b
+  abbrev book-with : Tally Value → List Operation → Seen → List Value → Answer → List Operation
+  book-with t b x shown a = places (λ o. o .number) (finishedBy (λ v. v .word) t x shown a) b
 
-  module _ {t : Tally ℕ} {b : List Operation} {s : Noted} (i : Tied t b s) (e : ℕ) (shown : List ℕ) where
+  module _ {t : Tally Value} {b : List Operation} {s : Noted} (i : Tied t b s) (e : ℕ) (words lasts : List ℕ) where
+    abbrev shown : List Value
+    shown = paired words lasts
+
     abbrev TiedWith : Request → Answer → Type 0
     TiedWith r a =
-        let x = sees (itemOf shown r) in
-        Tells n (mostTurns n) (λ e w. w) t x shown a → e ≡ tally-with t x a .event →
-        Tied (tally-with t x a) (book-with t b x shown a) (noted-with s r e shown a)
+        let x = sees (itemOf words r) in
+        Tells n (mostTurns n) stored t x shown a → e ≡ tally-with t x a .event →
+        Tied (tally-with t x a) (book-with t b x shown a) (noted-with s r e words a)
 
     no-update : {j : Job} {k w : ℕ} → j ≡ scan → j ≡ update k w → ⊥
     no-update p q = subst IsUpdate (sym q ∙ p) tt
@@ -186,20 +188,21 @@ module _ (n : ℕ) (few : n ≤ 8) (before : List (List ℕ)) where
         (λ x k v p u. i .kept d c k v m q (ap (λ z. z .job) (Option·some-injective (gains c) x p) ∙ u)) (λ j a p. refl)
 
     page-tied : (d at turns : ℕ) (c : Option Call) → callOf t d ≡ c → Among n d → PageFits (mostTurns n) t at turns shown c →
-        Tied (advanced t (t .words) d none) (places (λ o. o .number) (operations d (map (λ w. w) shown) at (suc (t .event)) c) b)
-        (record { words = s .words; count = s .count + 1; book = putIn (at ∷ 3 ∷ d ∷ eight shown) (s .count) (s .book) })
+        Tied (advanced t (t .words) d none) (places (λ o. o .number) (operations d (map (λ v. v .word) shown) at (suc (t .event)) c) b)
+        (record { words = s .words; count = s .count + 1; book = putIn (at ∷ 3 ∷ d ∷ eight words) (s .count) (s .book) })
     page-tied d at turns none q m f = absurd f
     page-tied d at turns (some c) q m f =
         let e = suc (t .event) in
         let o : Operation =
-        record { process = d; job = c .job; words = map (λ w. w) shown; called = c .number; number = at; answered = e } in
+        record { process = d; job = c .job; words = map (λ v. v .word) shown; called = c .number; number = at; answered = e } in
         subst (λ p. Tied (advanced t (t .words) d none) (place (λ o. o .number) o b)
         (record { words = s .words; count = s .count + 1; book = putIn p (s .count) (s .book) }))
-        (ap (λ j. at ∷ kindOf j ∷ d ∷ eight (wordsOf (map (λ w. w) shown) j)) (f .0) ∙ ap (λ ws. at ∷ 3 ∷ d ∷ eight ws) (map-same shown))
+        (ap (λ j. at ∷ kindOf j ∷ d ∷ eight (wordsOf (map (λ v. v .word) shown) j)) (f .0)
+        ∙ ap (λ ws. at ∷ 3 ∷ d ∷ eight ws) (words-paired words lasts))
         (answered-tied i (t .words) d m o)
 
     written-tied : (d turns : ℕ) (c : Option Call) → callOf t d ≡ c → Among n d → WrittenFits (mostTurns n) turns c → e ≡ suc (t .event) →
-        Tied (advanced t (putsIf (λ w. w) (t .words) c) d none) (places (λ o. o .number) (operations d [] (suc (t .event)) (suc (t .event)) c) b)
+        Tied (advanced t (putsIf (stored (suc (t .event))) (t .words) c) d none) (places (λ o. o .number) (operations d [] (suc (t .event)) (suc (t .event)) c) b)
         (record { words = s .words; count = s .count + 1; book = putIn (e ∷ 2 ∷ d ∷ eight (wordOf (s .words) d ∷ [])) (s .count) (s .book) })
     written-tied d turns none q m f now = absurd f
     written-tied d turns (some c) q m f now = go (c .job) refl (f .0)
@@ -207,15 +210,15 @@ module _ (n : ℕ) (few : n ≤ 8) (before : List (List ℕ)) where
         o : Operation
         o = record { process = d; job = c .job; words = []; called = c .number; number = suc (t .event); answered = suc (t .event) }
 
-        go : (j : Job) → c .job ≡ j → IsUpdate j → Tied (advanced t (puts (λ w. w) (t .words) (c .job)) d none) (place (λ o. o .number) o b)
+        go : (j : Job) → c .job ≡ j → IsUpdate j → Tied (advanced t (puts (stored (suc (t .event))) (t .words) (c .job)) d none) (place (λ o. o .number) o b)
             (record { words = s .words; count = s .count + 1; book = putIn (e ∷ 2 ∷ d ∷ eight (wordOf (s .words) d ∷ [])) (s .count) (s .book) })
         go scan u g = absurd g
         go (update k w) u g =
-            subst (λ p. Tied (advanced t (puts (λ w. w) (t .words) (c .job)) d none) (place (λ o. o .number) o b)
+            subst (λ p. Tied (advanced t (puts (stored (suc (t .event))) (t .words) (c .job)) d none) (place (λ o. o .number) o b)
             (record { words = s .words; count = s .count + 1; book = putIn p (s .count) (s .book) }))
             (ap (λ j. suc (t .event) ∷ kindOf j ∷ d ∷ eight (wordsOf [] j)) u
             ∙ ap₂ {C = List ℕ} (λ k w. k ∷ 2 ∷ d ∷ eight (w ∷ [])) (sym now) (sym (i .kept d c k w m q u)))
-            (answered-tied i (puts (λ w. w) (t .words) (c .job)) d m o)
+            (answered-tied i (puts (stored (suc (t .event))) (t .words) (c .job)) d m o)
 
     record-tied : (r : Request) (a : Answer) → TiedWith r a
     unfolding wordsAfter countAfter bookAfter
@@ -237,10 +240,10 @@ module _ (n : ℕ) (few : n ≤ 8) (before : List (List ℕ)) where
 
   -- ---- the whole file
 
-  file-tied : (xs : List Reading) (x : Box) (t : Tally ℕ) (b : List Operation) (s : Noted) → Tied t b s →
+  file-tied : (xs : List Reading) (x : Box) (t : Tally Value) (b : List Operation) (s : Noted) → Tied t b s →
       let hs = recordsIn (happenings x xs) in
-      Follows n (mostTurns n) (λ e w. w) t (map heardOf hs) → Numbered t hs →
-      Tied (tallyAfter (λ e w. w) t (map heardOf hs)) (places (λ o. o .number) (finished (λ e w. w) (λ w. w) t (map heardOf hs)) b)
+      Follows n (mostTurns n) stored t (map heardOf hs) → Numbered t hs →
+      Tied (tallyAfter stored t (map heardOf hs)) (places (λ o. o .number) (finished stored (λ v. v .word) t (map heardOf hs)) b)
       (notes s (happenings x xs))
   unfolding wordsAfter countAfter bookAfter
   file-tied [] x t b s i f q = i
@@ -252,12 +255,12 @@ module _ (n : ℕ) (few : n ≤ 8) (before : List (List ℕ)) where
       let a = h .outcome .answer in
       let u = tally-with t y a in
       let hs = map heardOf (recordsIn (happenings (boxAfter x (Found r next)) xs)) in
-      subst (λ z. Tied (tallyAfter (λ e w. w) u hs) z (notes (noteOf s h) (happenings (boxAfter x (Found r next)) xs)))
-      (sym (places-append (λ o. o .number) (finishedBy (λ w. w) t y (h .words) a) (finished (λ e w. w) (λ w. w) u hs) b))
-      (file-tied xs (boxAfter x (Found r next)) u (book-with t b y (h .words) a) (noteOf s h)
-      (record-tied i (h .outcome .day .event) (h .words) r a (f .0) (q .0)) (f .1) (q .1))
+      subst (λ z. Tied (tallyAfter stored u hs) z (notes (noteOf s h) (happenings (boxAfter x (Found r next)) xs)))
+      (sym (places-append (λ o. o .number) (finishedBy (λ v. v .word) t y (heardOf h .shown) a) (finished stored (λ v. v .word) u hs) b))
+      (file-tied xs (boxAfter x (Found r next)) u (book-with t b y (heardOf h .shown) a) (noteOf s h)
+      (record-tied i (h .outcome .day .event) (h .words) (h .lasts) r a (f .0) (q .0)) (f .1) (q .1))
 
-  first-tied : Tied (started n n 0) [] (blankNoted before)
+  first-tied : Tied (started n n zeroValue) [] (blankNoted before)
   first-tied =
       record {
         sane = record { calls = length-replicate n none; instants = refl; now = refl };

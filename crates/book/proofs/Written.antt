@@ -31,7 +31,7 @@ refuses bs book q =
       sym (ap (λ b. cond b book (map placeOf (bookIn bs) ++ drop (length (bookIn bs)) book)) short),
     )
 
-module _ (bs : List ℕ) (s : Notes) (before after : List (List ℕ)) (p : Passed s bs (replicate 8 0) before after) where
+module _ (bs : List ℕ) (s : Notes) (before after : List (List ℕ)) (p : Passed s bs (replicate 16 0) before after) where
   pub counted : s .count ≡ length (bookIn bs)
   unfolding dayOf
   counted = p .count ∙ noted-count bs before

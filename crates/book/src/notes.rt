@@ -7,7 +7,8 @@ use snapshot::Outcome;
 ghost use mathlib.Core.Path.{_≡_};
 ghost use Prim.Native.Nat.{_≤_};
 ghost use mathlib.Core.Bool.{not};
-ghost use lib.ListN.{length, take, replicate};
+ghost use lib.ListN.{length, replicate};
+ghost use Rattle.snapshot.specs.Values.{wordsIn};
 ghost use Rattle.book.specs.Passes.{blankNotes, nextAfter, Consumes, notesPast, bookPast, Passed};
 
 // How far a pass has come: the day, the place of the next record and the end of the file, whether all is done, how many operations
@@ -57,7 +58,7 @@ fn noted(s: Notes, x: Reading, o: Outcome, page: &[u32], book: &mut [[u32; 11]])
     requires { ⌜ Consumes x s × s .count ≤ s .at ⌝ }
     ensures { λ t. ⌜ t ≡ notesPast s x o ⌝ }
     ensures { λ _. ⌜ now (book .exit) ≡
-        bookPast s x o (take (o .day .count) (now (page .entry))) (now (book .entry)) ⌝ }
+        bookPast s x o (wordsIn (o .day .count) (now (page .entry))) (now (book .entry)) ⌝ }
 {
     let words = s.words;
     let day = o.day;
@@ -101,8 +102,8 @@ fn run(s: Notes, bytes: &[u8], book: &mut [[u32; 11]], page: &mut [u32]) -> Note
 
 // A pass over a file, with a page list of its own.
 pub fn pass(bytes: &[u8], book: &mut [[u32; 11]]) -> Notes
-    ensures { λ t. ⌜ Passed t (now (bytes .entry)) (replicate 8 0) (now (book .entry)) (now (book .exit)) ⌝ }
+    ensures { λ t. ⌜ Passed t (now (bytes .entry)) (replicate 16 0) (now (book .entry)) (now (book .exit)) ⌝ }
 {
-    let mut page = [0u32; 8];
+    let mut page = [0u32; 16];
     run(start(bytes.len()), bytes, book, &mut page)
 }

@@ -2,6 +2,7 @@
 
 use mathlib.Core.Path.{_≡_, refl}
 use mathlib.Core.List.{[], _++_}
+use Rattle.snapshot.specs.Values.{listed}
 use Rattle.snapshot.specs.Demand.{step}
 use Rattle.snapshot.specs.Verdict.{verdict}
 use Rattle.snapshot.specs.Marks.{isMoved, withMoved, lends}
@@ -29,5 +30,5 @@ use Rattle.booklines.specs.BookText.{bookText}
 pub case-a :
     (bookText (bookIn caseA) ≡ ascii "4 entry 1 7\n" ++ ascii "6 page 1 words 7\n" ++ ascii "end 2\n")
     × (bookText (bookIn []) ≡ ascii "end 0\n")
-unfolding bookText bookIn dayOf readings readingsUpTo reading recordOf lengthOf lentTo textOf bodyOf decimal Days.stepped step verdict laid readInto cleared pageOf differs isMoved withMoved lends begin position placeAt firstAfter secondAfter endAfter decision marksAfter afterRead foundBy written turned mostReads isPast unsound refusal advance openedBy calledBy turnBy accept
+unfolding bookText bookIn dayOf readings readingsUpTo reading recordOf lengthOf lentTo textOf bodyOf decimal Days.stepped step verdict laid readInto cleared pageOf differs isMoved withMoved lends begin position placeAt firstAfter secondAfter endAfter decision marksAfter afterRead foundBy written turned listed mostReads isPast unsound refusal advance openedBy calledBy turnBy accept
 case-a = (refl, refl)

@@ -31,11 +31,11 @@ place-book-line p = go (eqb (getD p 1 0) 2)
 -- where there is room, a line of a book is laid, and ends within the bytes of the longest
 module _ {line : Line} (is : BookLine line) (ws out : List ℕ) (at : ℕ) where
   pub line-laid : length ws ≤ 8 → at + longest ≤ length out → {r : ℕ} {after : List ℕ} →
-      r ≡ laidPlace line ws out at → after ≡ laidText line ws out at →
-      Laid out at (textOf line ws) after r × (r ≤ at + longestPlace)
+      r ≡ laidPlace line ws [] out at → after ≡ laidText line ws [] out at →
+      Laid out at (textOf line ws []) after r × (r ≤ at + longestPlace)
   line-laid few room {r} ends lies =
-      let laid = laid-with-room line ws out at few room in
-      let end : r ≡ at + length (textOf line ws) = ends ∙ laid .0 in
+      let laid = laid-with-room line ws [] out at (omega (arith, few)) room in
+      let end : r ≡ at + length (textOf line ws []) = ends ∙ laid .0 in
       let short = book-line-short is ws few in
       (record { buffer = lies ∙ laid .1; end = end }, omega (arith, end, short))
 
@@ -70,10 +70,10 @@ module _ (count n places room : ℕ) where
 
 module _ (book : List (List ℕ)) (count n room : ℕ) where
   abbrev text : Bool → List ℕ
-  text b = cond b (placesText n (take count book) ++ textOf (End count) []) []
+  text b = cond b (placesText n (take count book) ++ textOf (End count) [] []) []
 
   pub book-laid : hasRoom count n (length book) room ≡ true →
-      laidBook book count n room ≡ placesText n (take count book) ++ textOf (End count) []
+      laidBook book count n room ≡ placesText n (take count book) ++ textOf (End count) [] []
   unfolding laidBook
   book-laid e = ap text e
 

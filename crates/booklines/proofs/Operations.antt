@@ -31,14 +31,14 @@ module _ (n : ℕ) (few : n ≤ 8) where
   words-shown : (ws : List ℕ) → length ws ≡ n → take n (eight ws) ≡ ws
   words-shown ws long = take-each (λ i. getD ws i 0) n 8 0 few ∙ sym (list-is-each n 0 ws long)
 
-  place-text : (o : Operation) → ShowsWords n (o .words) (o .job) → placeText n (placeOf o) ≡ textOf (operationLine o) (o .words)
+  place-text : (o : Operation) → ShowsWords n (o .words) (o .job) → placeText n (placeOf o) ≡ textOf (operationLine o) (o .words) []
   unfolding placeLine textOf bodyOf
   place-text o = go (o .job)
     where
       go : (j : Job) → ShowsWords n (o .words) j →
           placeText n (o .number ∷ kindOf j ∷ o .process ∷ eight (wordsOf (o .words) j))
-          ≡ textOf (jobLine (o .number) (o .process) j) (o .words)
-      go scan long = ap (textOf (BookPage (o .number) (o .process))) (words-shown (o .words) long)
+          ≡ textOf (jobLine (o .number) (o .process) j) (o .words) []
+      go scan long = ap (λ ws. textOf (BookPage (o .number) (o .process)) ws []) (words-shown (o .words) long)
       go (update k w) _ = refl
 
   places-text : (os : List Operation) → All (λ o. ShowsWords n (o .words) (o .job)) os →
@@ -57,5 +57,5 @@ module _ (n : ℕ) (few : n ≤ 8) where
       let all = length-append places later in
       let wider = true-room (length os) n (length (places ++ later)) room (omega (arith, long, all)) most few wide in
       book-laid (places ++ later) (length os) n room wider
-      ∙ ap (λ ps. placesText n ps ++ textOf (End (length os)) []) (take-at places later (length os) long)
-      ∙ ap (λ t. t ++ textOf (End (length os)) []) (places-text os show)
+      ∙ ap (λ ps. placesText n ps ++ textOf (End (length os)) [] []) (take-at places later (length os) long)
+      ∙ ap (λ t. t ++ textOf (End (length os)) [] []) (places-text os show)

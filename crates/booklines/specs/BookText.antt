@@ -19,8 +19,8 @@ operationLine o = jobLine (o .number) (o .process) (o .job)
 -- their lines, one after the other
 abbrev pub operationLines : List Operation → List ℕ
 operationLines [] = []
-operationLines (o ∷ os) = textOf (operationLine o) (o .words) ++ operationLines os
+operationLines (o ∷ os) = textOf (operationLine o) (o .words) [] ++ operationLines os
 
 -- one line an operation, then `end` and how many there are
 unfoldable pub bookText : List Operation → List ℕ
-bookText os = operationLines os ++ textOf (End (length os)) []
+bookText os = operationLines os ++ textOf (End (length os)) [] []

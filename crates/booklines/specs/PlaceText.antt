@@ -15,7 +15,7 @@ placeLine p = cond (eqb (getD p 1 0) 2) (Update (getD p 0 0) (getD p 2 0) (getD 
 
 -- its text; the words of a page are the first n of its eight
 abbrev pub placeText : ℕ → List ℕ → List ℕ
-placeText n p = textOf (placeLine p) (take n (drop 3 p))
+placeText n p = textOf (placeLine p) (take n (drop 3 p)) []
 
 -- the text of places, one line after the other
 abbrev pub placesText : ℕ → List (List ℕ) → List ℕ
@@ -39,4 +39,4 @@ hasRoom count n places room =
 -- what is laid: their lines and the end, or nothing
 unfoldable pub laidBook : List (List ℕ) → (count n room : ℕ) → List ℕ
 laidBook book count n room =
-    cond (hasRoom count n (length book) room) (placesText n (take count book) ++ textOf (End count) []) []
+    cond (hasRoom count n (length book) room) (placesText n (take count book) ++ textOf (End count) [] []) []

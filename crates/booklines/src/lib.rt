@@ -39,7 +39,7 @@ fn lay_place(place: &[u32; 11], n: usize, out: &mut [u8], at: usize) -> usize
 {
     let numbers = &place[..];
     let end = 3 + n;
-    laying::lay(line_of(place), &numbers[3..end], out, at)
+    laying::lay(line_of(place), &numbers[3..end], &numbers[..0], out, at)
 }
 
 // Lays the lines of the first `count` places.
@@ -85,5 +85,5 @@ pub fn lay_book(book: &[[u32; 11]], count: usize, n: usize, out: &mut [u8]) -> u
     let at = lay_places(book, count, n, out);
     let places = count as u32;
     let none: [u32; 0] = [];
-    laying::lay(Line::End { event: places }, &none, out, at)
+    laying::lay(Line::End { event: places }, &none, &none, out, at)
 }

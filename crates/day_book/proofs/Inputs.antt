@@ -78,6 +78,6 @@ module _ (places : ℕ) (i : Incoming) where
 
 -- ---- the sizes of the buffers
 
-pub room-enough : (places : List (List ℕ)) (out : List ℕ) → length places ≡ 21845 → length out ≡ 2643501 →
+pub room-enough : (places : List (List ℕ)) (out : List ℕ) → length places ≡ 21845 → length out ≡ 2643517 →
     LinesFit (length places) (length out)
 room-enough places out few wide = record { few = omega arith; wide = omega arith }

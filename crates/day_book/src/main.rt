@@ -20,8 +20,8 @@ const INPUT: usize = 2097153;
 // A day has at most 65,535 events, and a finished operation takes three of them at least, its call and two turns.
 const PLACES: usize = 21845;
 
-// Room for the line of each place, 121 bytes, and for the end: 256, daytext's LONGEST.
-const OUTPUT: usize = 2643501;
+// Room for the line of each place, 121 bytes, and for the end: 272, daytext's LONGEST.
+const OUTPUT: usize = 2643517;
 
 // Lays the text of the book of a whole day file, and answers how many bytes it takes. With PLACES places it is not refused: no book
 // has more.

@@ -21,7 +21,7 @@ const INPUT: usize = 2097153;
 const ANSWERS: usize = 65536;
 
 // Room for the line: daytext's LONGEST.
-const OUTPUT: usize = 256;
+const OUTPUT: usize = 272;
 
 // The bytes of the longest argument that Linux takes, with the 0 at its end.
 const WORD: usize = 131072;
@@ -31,7 +31,7 @@ const LABEL: usize = 4121;
 
 // Lays the line of the figures of what is gathered, if every file came whole.
 fn lay(desks: u32, q: Quarter, answers: &[[u32; 3]], out: &mut [u8]) -> usize
-    requires { ⌜ (q .whole ≡ true → q .count ≤ length (now answers)) × (256 ≤ length (now out)) ⌝ }
+    requires { ⌜ (q .whole ≡ true → q .count ≤ length (now answers)) × (272 ≤ length (now out)) ⌝ }
     ensures { λ r. ⌜ Laid (now (out .entry)) 0 (lineOf desks (now (answers .entry)) q) (now (out .exit)) r ⌝ }
 {
     if !q.whole {
@@ -50,7 +50,7 @@ fn run(
     answers: &mut [[u32; 3]],
     out: &mut [u8],
 ) -> bool
-    requires { ⌜ (2 ≤ n) × (25 ≤ length (now label)) × (65535 < length (now answers)) × (256 ≤ length (now out)) ⌝ }
+    requires { ⌜ (2 ≤ n) × (25 ≤ length (now label)) × (65535 < length (now answers)) × (272 ≤ length (now out)) ⌝ }
     ensures { λ went. ⌜ IsFiguresRun desks (n - 2) (length (now (bytes .entry))) (now (out .entry)) (now (out .exit)) went ⌝ }
 {
     let q = quarters::read_days(n, label, bytes, answers);

@@ -100,7 +100,7 @@ made-more most left t u some unended h p =
 -- ---- the beginning
 
 pub start-rests : (r : Running) (page bytes out : List ℕ) → r .progress ≡ blankProgress →
-    length bytes ≡ 6138 → length out ≡ 262144 → length page ≡ 8 →
+    length bytes ≡ 6138 → length out ≡ 278528 → length page ≡ 16 →
     Rests (r .progress) (length bytes) (length out) (length page)
 start-rests r page bytes out e long-in long-out long-page =
     subst (λ (p : Progress). Rests p (length bytes) (length out) (length page)) (sym e)
@@ -113,5 +113,5 @@ start-rests r page bytes out e long-in long-out long-page =
     })
 
 pub start-is-blank : (r : Running) (bytes out : List ℕ) → r .progress ≡ blankProgress → r .table ≡ replicate 8 zeroProcess →
-    standOf r (replicate 8 0) bytes out ≡ blankStand
-start-is-blank r bytes out e f = ap₂ (λ p t. standAt p t (replicate 8 0) bytes out) e f
+    standOf r (replicate 16 0) bytes out ≡ blankStand
+start-is-blank r bytes out e f = ap₂ (λ p t. standAt p t (replicate 16 0) bytes out) e f

@@ -14,8 +14,8 @@ ghost use Rattle.day_runner.specs.Passes.{IsPass, IsRun};
 // As many bytes as 1,023 of the shortest records: a pass lays a line for each and one for the end.
 const INPUT: usize = 6138;
 
-// Room for those 1,024 lines, whatever they are: 256 bytes for each, daytext's LONGEST.
-const OUTPUT: usize = 262144;
+// Room for those 1,024 lines, whatever they are: 272 bytes for each, daytext's LONGEST.
+const OUTPUT: usize = 278528;
 
 // A pass: one read fills up the input, the records that lie whole in it are run, and their lines are written.
 fn pass(r: Running, bytes: &mut [u8], out: &mut [u8], page: &mut [u32]) -> Running
@@ -56,6 +56,6 @@ fn passes(r: Running, most: u64, bytes: &mut [u8], out: &mut [u8], page: &mut [u
 fn main() {
     let mut bytes = [0u8; INPUT];
     let mut out = [0u8; OUTPUT];
-    let mut page = [0u32; 8];
+    let mut page = [0u32; 16];
     passes(records::start(), u64::MAX, &mut bytes, &mut out, &mut page);
 }

@@ -25,7 +25,7 @@ callLine e (Asked.Update d w) = Printed.Update e d w
 callLine e (Asked.Scan d) = Printed.Scan e d
 callLine e (Asked.Turn d) = Printed.Read e d
 
--- the line of a request by its reply, with the event number afterwards; the words of a page stand beside its line
+-- the line of a request by its reply, with the event number afterwards; the words and numbers of a page stand beside its line
 abbrev pub replyLine : Request → ℕ → Reply ℕ → Line
 replyLine x e (refused k) = Printed.Refused k
 replyLine x e opened = Printed.Opened (numberIn x)
@@ -53,7 +53,7 @@ isEnd (Refused k) = false
 
 -- the text of the line of what happened, and that of all that did
 abbrev pub lineIn : Happening → List ℕ
-lineIn h = textOf (lineOf (h .outcome) (h .reading)) (h .words)
+lineIn h = textOf (lineOf (h .outcome) (h .reading)) (h .words) (h .lasts)
 
 abbrev pub linesOf : List Happening → List ℕ
 linesOf [] = []
@@ -61,7 +61,7 @@ linesOf (h ∷ hs) = lineIn h ++ linesOf hs
 
 -- "prints one line a record, then `end` and the event number", where the day was d before
 unfoldable pub printout : Day → List Happening → List ℕ
-printout d hs = linesOf hs ++ textOf (Printed.End (dayAfter d hs .event)) []
+printout d hs = linesOf hs ++ textOf (Printed.End (dayAfter d hs .event)) [] []
 
 -- what a day file prints
 abbrev pub printed : List ℕ → List ℕ

@@ -7,7 +7,8 @@ use snapshot::Request;
 ghost use mathlib.Core.Path.{_≡_};
 ghost use mathlib.Core.List.{List};
 ghost use Prim.Native.Nat.{ℕ, _≤_};
-ghost use lib.ListN.{length, take};
+ghost use lib.ListN.{length, take, drop};
+ghost use Rattle.snapshot.specs.Values.{wordsIn, lastsIn};
 ghost use Rattle.daytext.specs.Buffer.{laidPlace, laidText};
 ghost use Rattle.daylines.specs.Printed.{callLine, answerLine, lineOf, isEnd};
 
@@ -80,20 +81,25 @@ pub fn is_end(x: Reading) -> bool
     }
 }
 
-// How many words of a page list of that size a day shows.
+// How many of so many numbers there are in a list of that size.
 fn shown(count: u32, size: usize) -> usize
-    ensures { λ n. ⌜ (n ≤ size) × ((l : List ℕ) → length l ≡ size → take n l ≡ take count l) ⌝ }
+    ensures { λ n. ⌜ (n ≤ size)
+        × ((l : List ℕ) → length l ≡ size → (take n l ≡ take count l) × (drop n l ≡ drop count l)) ⌝ }
 {
     let n = count as usize;
     if size < n { size } else { n }
 }
 
-// Lays the line of what was read, with the words of the page list that the day shows, and answers the place after it.
+// Lays the line of what was read, with the words of the page list that the day shows and the numbers of their last writings, and
+// answers the place after it.
 pub fn lay(x: Reading, o: Outcome, page: &[u32], out: &mut [u8], to: usize) -> usize
-    ensures { λ r. ⌜ r ≡ laidPlace (lineOf o x) (take (o .day .count) (now (page .entry))) (now (out .entry)) to ⌝ }
-    ensures { λ r. ⌜ now (out .exit) ≡ laidText (lineOf o x) (take (o .day .count) (now (page .entry))) (now (out .entry)) to ⌝ }
+    ensures { λ r. ⌜ r ≡ laidPlace (lineOf o x) (wordsIn (o .day .count) (now (page .entry))) (lastsIn (o .day .count) (now (page .entry)))
+        (now (out .entry)) to ⌝ }
+    ensures { λ r. ⌜ now (out .exit) ≡ laidText (lineOf o x) (wordsIn (o .day .count) (now (page .entry)))
+        (lastsIn (o .day .count) (now (page .entry))) (now (out .entry)) to ⌝ }
 {
     let day = o.day;
     let n = shown(day.count, page.len());
-    laying::lay(line_of(x, o), &page[..n], out, to)
+    let end = n + shown(day.count, page.len() - n);
+    laying::lay(line_of(x, o), &page[..n], &page[n..end], out, to)
 }

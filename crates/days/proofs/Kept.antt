@@ -10,6 +10,8 @@ use lib.ListN.{length, take, drop, length-drop, length-append}
 use lib.Dec.{ltb}
 use borrow.Author.Tests.{ltb-true}
 use Rattle.snapshot.specs.Lists.{over}
+use Rattle.snapshot.specs.declared.Value.{Value}
+use Rattle.snapshot.specs.Values.{pagePlaces, listed, wordsIn, lastsIn}
 use Rattle.snapshot.specs.declared.Day.{Day}
 use Rattle.snapshot.specs.declared.Refusal.{Refusal}
 use Rattle.snapshot.specs.declared.Request.{Request}
@@ -52,6 +54,14 @@ take-less zero ws = omega arith
 take-less (suc n) [] = omega arith
 take-less (suc n) (w ∷ ws) = let l = take-less n ws in omega arith
 
+parts-less : (n : ℕ) (ws : List ℕ) → length (wordsIn n ws) + length (lastsIn n ws) ≤ length ws
+parts-less n ws =
+    let a = take-less n (drop n ws) in
+    let b = length-drop n ws in
+    let c = take-short n ws in
+    let d = take-less n ws in
+    omega (arith, a, b, c, d)
+
 over-short : (n : ℕ) (ws page : List ℕ) → n ≤ length page → length (over n ws page) ≤ length page
 over-short n ws page l =
     let a = length-append (take n ws) (drop n page) in
@@ -59,17 +69,17 @@ over-short n ws page l =
     let c = take-short n ws in
     omega (arith, a, b, c, l)
 
-module _ (o : Order) (n now : ℕ) (r : Register) (page : List ℕ) (p : Process) (l : n ≤ length page) where
+module _ (o : Order) (n now : ℕ) (r : Register) (page : List ℕ) (p : Process) (l : pagePlaces n ≤ length page) where
   turned-page : (k : Task) → length (turnedBy o n now r page p k .page) ≤ length page
   turned-page Idle = le-refl (length page)
   turned-page (Scanning t) = go (foundBy o n now (position n t) r p)
     where
-      go : (f : Option (Page ℕ)) → length (scanTurn o n now r page p t f .page) ≤ length page
+      go : (f : Option (Page Value)) → length (scanTurn o n now r page p t f .page) ≤ length page
       go none = le-refl (length page)
-      go (some f) = over-short n (f .words) page l
+      go (some f) = over-short (pagePlaces n) (listed (f .words)) page l
   turned-page (Updating w t) = go (foundBy o n now (position n t) r p)
     where
-      go : (f : Option (Page ℕ)) → length (updateTurn o n now r page p w t f .page) ≤ length page
+      go : (f : Option (Page Value)) → length (updateTurn o n now r page p w t f .page) ≤ length page
       go none = le-refl (length page)
       go (some f) = le-refl (length page)
   turned-page (Ready w at t) = le-refl (length page)
@@ -100,9 +110,11 @@ module _ (b : Box) (x : Reading) where
   pub page-kept : length (boxAfter b x .page) ≤ length (b .page)
   page-kept = asked-page (b .day) (take (lentIn b x) (b .table)) (b .page) x
 
-  -- nor do the words that are shown
-  pub words-few : length (happeningIn b x .words) ≤ length (b .page)
-  words-few =
-      let l = take-less (boxAfter b x .day .count) (boxAfter b x .page) in
+  -- nor do the words and numbers that are shown
+  pub few-shown : length (happeningIn b x .words) + length (happeningIn b x .lasts) ≤ length (b .page)
+  few-shown =
+      let n = boxAfter b x .day .count in
+      let page = boxAfter b x .page in
+      let l = parts-less n page in
       let m = page-kept in
       omega (arith, l, m)

@@ -3,6 +3,7 @@ use Prim.Native.Nat.{ℕ}
 use mathlib.Core.Bool.{cond}
 use mathlib.Core.List.{List, [], _∷_, _++_}
 use lib.ListN.{take, drop, replicate}
+use Rattle.snapshot.specs.Values.{wordsIn, lastsIn}
 use Rattle.snapshot.specs.Requests.{blankDay}
 use Rattle.snapshot.specs.declared.Day.{Day}
 use Rattle.snapshot.specs.declared.Outcome.{Outcome}
@@ -20,7 +21,7 @@ pub record Box : Type 0 where
 
 -- before the first: "A blank day has both 0", and so has every record and word
 abbrev pub blankBox : Box
-blankBox = record { day = blankDay; table = replicate 8 zeroProcess; page = replicate 8 0 }
+blankBox = record { day = blankDay; table = replicate 8 zeroProcess; page = replicate 16 0 }
 
 -- how many records of the box are lent to x, and the outcome of asking x of them
 abbrev pub lentIn : Box → Reading → ℕ
@@ -39,17 +40,19 @@ boxAfter b x =
       page = askedPage (b .day) lent (b .page) x;
     }
 
--- what happened: what was read, a record or the refusal 7, 8 or 9, its outcome, and the words that the page list then shows ("A page's
--- words are the first n of its page list when its turn returns")
+-- what happened: what was read, a record or the refusal 7, 8 or 9, its outcome, and the words and numbers that the page list then shows
+-- ("A page's words are the first n of its page list when its turn returns"; "The page list takes them after the words", K6)
 pub record Happening : Type 0 where
   pub reading : Reading
   pub outcome : Outcome
   pub words : List ℕ
+  pub lasts : List ℕ
 
 abbrev pub happeningIn : Box → Reading → Happening
 happeningIn b x =
     let after = boxAfter b x in
-    record { reading = x; outcome = outcomeIn b x; words = take (after .day .count) (after .page) }
+    let n = after .day .count in
+    record { reading = x; outcome = outcomeIn b x; words = wordsIn n (after .page); lasts = lastsIn n (after .page) }
 
 -- what happened where these were read one after the other
 abbrev pub happenings : Box → List Reading → List Happening

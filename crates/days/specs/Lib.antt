@@ -1,3 +1,3 @@
--- A file's records with their outcomes and page words. Read in this order.
+-- A file's records with their outcomes and pages. Read in this order.
 pub mod Asking
 pub mod Happenings

@@ -10,16 +10,16 @@ use Rattle.daytext.specs.Lines.{textOf}
 
 -- the bytes that are kept free for one line
 abbrev pub longest : ℕ
-longest = 256
+longest = 272
 
--- whether a line is laid: there are at most eight words, and room for the longest line
-unfoldable pub isLaid : List ℕ → List ℕ → ℕ → Bool
-isLaid ws out at = leb (length ws) 8 && leb (at + longest) (length out)
+-- whether a line is laid: there are at most sixteen words and numbers, and room for the longest line
+unfoldable pub isLaid : (words lasts out : List ℕ) → ℕ → Bool
+isLaid ws es out at = leb (length ws + length es) 16 && leb (at + longest) (length out)
 
 -- the place after the line, or the same place where it is not laid
-unfoldable pub laidPlace : Line → List ℕ → List ℕ → ℕ → ℕ
-laidPlace line ws out at = cond (isLaid ws out at) (at + length (textOf line ws)) at
+unfoldable pub laidPlace : Line → (words lasts out : List ℕ) → ℕ → ℕ
+laidPlace line ws es out at = cond (isLaid ws es out at) (at + length (textOf line ws es)) at
 
 -- the buffer with the line, or as it was where it is not laid
-unfoldable pub laidText : Line → List ℕ → List ℕ → ℕ → List ℕ
-laidText line ws out at = cond (isLaid ws out at) (withText out at (textOf line ws)) out
+unfoldable pub laidText : Line → (words lasts out : List ℕ) → ℕ → List ℕ
+laidText line ws es out at = cond (isLaid ws es out at) (withText out at (textOf line ws es)) out

@@ -2,7 +2,8 @@
 // of them by crate `laying`.
 pub mod lines;
 
-// A printed line (document 01, Day files and the day runner; document 02, K1). The words of a page lie in a slice beside it.
+// A printed line (document 01, Day files and the day runner; document 02, K1). The words of a page, and the
+// numbers of their last writings, lie in slices beside it.
 pub enum Line {
     // open COUNT
     Opened {
@@ -30,7 +31,7 @@ pub enum Line {
         process: u32,
         turns: u32,
     },
-    // EVENT page PROCESS from LENDER at INSTANT turns TURNS words WORD ..
+    // EVENT page PROCESS from LENDER at INSTANT turns TURNS words WORD .. last EVENT ..
     Page {
         event: u32,
         process: u32,
@@ -54,4 +55,4 @@ pub enum Line {
 }
 
 // The bytes that are kept free for one line. No line is longer.
-pub const LONGEST: usize = 256;
+pub const LONGEST: usize = 272;

@@ -10,9 +10,9 @@ ghost use Rattle.texts.specs.Laying.{Laid};
 
 // The lines with an event, each apart, so that its texts are laid out for it alone.
 pub fn update(n: u32, process: u32, word: u32, out: &mut [u8], at: usize) -> usize
-    requires { ⌜ at + 255 ≤ length (now out) ⌝ }
-    ensures { λ r. ⌜ Laid (now (out .entry)) at (bodyOf (Line.Update n process word) []) (now (out .exit)) r ⌝ }
-    ensures { λ r. ⌜ r ≤ at + 255 ⌝ }
+    requires { ⌜ at + 271 ≤ length (now out) ⌝ }
+    ensures { λ r. ⌜ Laid (now (out .entry)) at (bodyOf (Line.Update n process word) [] []) (now (out .exit)) r ⌝ }
+    ensures { λ r. ⌜ r ≤ at + 271 ⌝ }
 {
     let a = number(n, out, at);
     let b = field(b" entry ", process, out, a);
@@ -20,27 +20,27 @@ pub fn update(n: u32, process: u32, word: u32, out: &mut [u8], at: usize) -> usi
 }
 
 pub fn scan(n: u32, process: u32, out: &mut [u8], at: usize) -> usize
-    requires { ⌜ at + 255 ≤ length (now out) ⌝ }
-    ensures { λ r. ⌜ Laid (now (out .entry)) at (bodyOf (Line.Scan n process) []) (now (out .exit)) r ⌝ }
-    ensures { λ r. ⌜ r ≤ at + 255 ⌝ }
+    requires { ⌜ at + 271 ≤ length (now out) ⌝ }
+    ensures { λ r. ⌜ Laid (now (out .entry)) at (bodyOf (Line.Scan n process) [] []) (now (out .exit)) r ⌝ }
+    ensures { λ r. ⌜ r ≤ at + 271 ⌝ }
 {
     let a = number(n, out, at);
     field(b" asked ", process, out, a)
 }
 
 pub fn read(n: u32, process: u32, out: &mut [u8], at: usize) -> usize
-    requires { ⌜ at + 255 ≤ length (now out) ⌝ }
-    ensures { λ r. ⌜ Laid (now (out .entry)) at (bodyOf (Line.Read n process) []) (now (out .exit)) r ⌝ }
-    ensures { λ r. ⌜ r ≤ at + 255 ⌝ }
+    requires { ⌜ at + 271 ≤ length (now out) ⌝ }
+    ensures { λ r. ⌜ Laid (now (out .entry)) at (bodyOf (Line.Read n process) [] []) (now (out .exit)) r ⌝ }
+    ensures { λ r. ⌜ r ≤ at + 271 ⌝ }
 {
     let a = number(n, out, at);
     field(b" read ", process, out, a)
 }
 
 pub fn written(n: u32, process: u32, turns: u32, out: &mut [u8], at: usize) -> usize
-    requires { ⌜ at + 255 ≤ length (now out) ⌝ }
-    ensures { λ r. ⌜ Laid (now (out .entry)) at (bodyOf (Line.Written n process turns) []) (now (out .exit)) r ⌝ }
-    ensures { λ r. ⌜ r ≤ at + 255 ⌝ }
+    requires { ⌜ at + 271 ≤ length (now out) ⌝ }
+    ensures { λ r. ⌜ Laid (now (out .entry)) at (bodyOf (Line.Written n process turns) [] []) (now (out .exit)) r ⌝ }
+    ensures { λ r. ⌜ r ≤ at + 271 ⌝ }
 {
     let a = number(n, out, at);
     let b = field(b" written ", process, out, a);

@@ -60,11 +60,11 @@ module _ (n : ℕ) (r : Reckoning) (out : List ℕ) where
 
 -- the line of a refusal
 pub refusal-laid : (out : List ℕ) → longest ≤ length out → (k : Refusal) (number : ℕ) → number ≡ numberOf k →
-    {after : List ℕ} {r : ℕ} → r ≡ laidPlace (Line.Refused number) [] out 0 → after ≡ laidText (Line.Refused number) [] out 0 →
-    Laid out 0 (textOf (Line.Refused (numberOf k)) []) after r
+    {after : List ℕ} {r : ℕ} → r ≡ laidPlace (Line.Refused number) [] [] out 0 → after ≡ laidText (Line.Refused number) [] [] out 0 →
+    Laid out 0 (textOf (Line.Refused (numberOf k)) [] []) after r
 refusal-laid out room k number is ends lies =
-    let laid = laid-with-room (Line.Refused number) [] out 0 (omega arith) (omega (arith, room)) in
-    laid-as (ap (λ j. textOf (Line.Refused j) []) is) (record { buffer = lies ∙ laid .1; end = ends ∙ laid .0 })
+    let laid = laid-with-room (Line.Refused number) [] [] out 0 (omega arith) (omega (arith, room)) in
+    laid-as (ap (λ j. textOf (Line.Refused j) [] []) is) (record { buffer = lies ∙ laid .1; end = ends ∙ laid .0 })
 
 -- ---- computed
 

@@ -37,7 +37,7 @@ figuresText n f =
 -- or why there are none
 unfoldable pub reckoningText : ℕ → Reckoning → List ℕ
 reckoningText n (Reckonings.Given f) = figuresText n f
-reckoningText n (Reckonings.Refused k) = textOf (Lines.Refused (numberOf k)) []
+reckoningText n (Reckonings.Refused k) = textOf (Lines.Refused (numberOf k)) [] []
 
 -- what is laid of it into so many bytes: nothing where they may be too few
 abbrev pub laidReckoning : ℕ → Reckoning → (room : ℕ) → List ℕ

@@ -44,7 +44,7 @@ fn fraction(text: &[u8], f: Fraction, out: &mut [u8], at: usize) -> usize
 
 // Lays the line of figures for a desk count.
 fn lay_figures(desks: u32, f: Figures, out: &mut [u8]) -> usize
-    requires { ⌜ 256 ≤ length (now out) ⌝ }
+    requires { ⌜ 272 ≤ length (now out) ⌝ }
     ensures { λ r. ⌜ Laid (now (out .entry)) 0 (figuresText desks f) (now (out .exit)) r ⌝ }
 {
     let mean = f.mean;
@@ -73,6 +73,7 @@ pub fn lay(desks: u32, r: Reckoning, out: &mut [u8]) -> usize
                 Line::Refused {
                     number: snapshot::number(k),
                 },
+                &none,
                 &none,
                 out,
                 0,

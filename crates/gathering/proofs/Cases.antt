@@ -2,6 +2,7 @@
 use Prim.Native.Nat.{ℕ, zero, suc}
 use mathlib.Core.Path.{_≡_, refl}
 use mathlib.Core.List.{List, [], _∷_, _++_}
+use Rattle.snapshot.specs.Values.{listed}
 use Rattle.snapshot.specs.Demand.{step}
 use Rattle.snapshot.specs.Verdict.{verdict}
 use Rattle.snapshot.specs.Marks.{isMoved, withMoved, lends}
@@ -51,5 +52,5 @@ pub cases :
     × (endedBy (dayOf cutShort) ≡ 7)
     × (endedBy (dayOf []) ≡ 0)
     × (endedBy (dayOf caseB) ≡ 0)
-unfolding dayOf readings readingsUpTo reading recordOf lengthOf lentTo Days.stepped step verdict laid readInto cleared pageOf differs isMoved withMoved lends begin position placeAt firstAfter secondAfter endAfter decision marksAfter afterRead foundBy written turned mostReads isPast unsound refusal advance openedBy calledBy turnBy accept
+unfolding dayOf readings readingsUpTo reading recordOf lengthOf lentTo Days.stepped step verdict laid readInto cleared pageOf differs isMoved withMoved lends begin position placeAt firstAfter secondAfter endAfter decision marksAfter afterRead foundBy written turned mostReads isPast unsound refusal advance openedBy calledBy turnBy accept listed
 cases = (refl, refl, refl, refl)

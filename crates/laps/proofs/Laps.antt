@@ -11,6 +11,7 @@ use lib.ListN.{length, take, drop, length-drop}
 use lib.Seq.{drop-drop, length-take-le, take-nil, take-at}
 use lib.Dec.{leb}
 use borrow.Author.Tests.{leb-true, leb-false, le-leb}
+use Rattle.snapshot.specs.Values.{wordsIn, lastsIn}
 use Rattle.snapshot.specs.declared.Day.{Day}
 use Rattle.snapshot.specs.declared.Outcome.{Outcome}
 use Rattle.dayfile.specs.Reader.{reading}
@@ -20,7 +21,7 @@ use Rattle.dayfile.proofs.Reader.{found-consumes, refused-some}
 use Rattle.unbounded.specs.declared.Process.{Process}
 use Rattle.days.specs.Asking.{requestOf, lentTo, askedOutcome, askedTable, askedPage}
 use Rattle.days.specs.Happenings.{Happening, boxAfter, happeningIn}
-use Rattle.days.proofs.Kept.{words-few}
+use Rattle.days.proofs.Kept.{few-shown}
 use Rattle.daytext.specs.declared.Line.{Line}
 use Rattle.daytext.specs.Lines.{textOf}
 use Rattle.texts.specs.Laying.{withText}
@@ -163,12 +164,15 @@ module _ (i : Input) (bytes : List ℕ) where
   left-none = let e : i .end - i .end ≡ 0 = omega arith in ap (λ n. take n (drop (i .end) bytes)) e
 
 -- a line ends no further than the bytes that are kept free for it
-line-near : (line : Line) (ws out : List ℕ) (at : ℕ) → laidPlace line ws out at ≤ at + longest
+line-near : (line : Line) (ws es out : List ℕ) (at : ℕ) → laidPlace line ws es out at ≤ at + longest
 unfolding laidPlace isLaid
-line-near line ws out at = go (leb (length ws) 8) refl (leb (at + longest) (length out))
+line-near line ws es out at = go (leb few 16) refl (leb (at + longest) (length out))
   where
-    go : (a : Bool) → leb (length ws) 8 ≡ a → (b : Bool) → cond (a && b) (at + length (textOf line ws)) at ≤ at + longest
-    go true e true = let l = line-fits line ws (leb-true (length ws) 8 e) in omega (arith, l)
+    few : ℕ
+    few = length ws + length es
+
+    go : (a : Bool) → leb few 16 ≡ a → (b : Bool) → cond (a && b) (at + length (textOf line ws es)) at ≤ at + longest
+    go true e true = let l = line-fits line ws es (leb-true few 16 e) in omega (arith, l)
     go true e false = omega arith
     go false e b = omega arith
 
@@ -265,10 +269,13 @@ module _ (t : Turn) (y : Reading) where
   lapPage = askedPage (t .progress .day) (take lapLent (t .table)) (t .page) y
 
   abbrev words : List ℕ
-  words = take (lapOutcome .day .count) lapPage
+  words = wordsIn (lapOutcome .day .count) lapPage
+
+  abbrev lasts : List ℕ
+  lasts = lastsIn (lapOutcome .day .count) lapPage
 
   abbrev line-end : ℕ
-  line-end = laidPlace (lineOf lapOutcome y) words (t .out) (t .progress .written)
+  line-end = laidPlace (lineOf lapOutcome y) words lasts (t .out) (t .progress .written)
 
   abbrev pub nextTurn : Turn
   nextTurn =
@@ -276,7 +283,7 @@ module _ (t : Turn) (y : Reading) where
         progress = progressPast (t .progress) (lapOutcome .day) line-end y;
         table = lapRecords ++ drop lapLent (t .table);
         page = lapPage;
-        out = laidText (lineOf lapOutcome y) words (t .out) (t .progress .written);
+        out = laidText (lineOf lapOutcome y) words lasts (t .out) (t .progress .written);
       }
 
   module _ {size room few : ℕ} (ready : CanLay (t .progress) size room few) (go : canGo (t .progress) room ≡ true)
@@ -294,7 +301,7 @@ module _ (t : Turn) (y : Reading) where
     lap-ready =
         let fewer = lap-fewer in
         let near = past-written (t .progress) (lapOutcome .day) line-end
-        (line-near (lineOf lapOutcome y) words (t .out) (t .progress .written)) y in
+        (line-near (lineOf lapOutcome y) words lasts (t .out) (t .progress .written)) y in
         let before = ready .room-left in
         record {
           within = past-within (t .progress) (lapOutcome .day) line-end size y takes (ready .within);
@@ -324,16 +331,16 @@ module _ (p : Progress) (xs : List Process) (page bytes out : List ℕ)
     h = happeningIn (s .box) y
 
     abbrev w : ℕ
-    w = laidPlace (lineOf (h .outcome) y) (h .words) out (p .written)
+    w = laidPlace (lineOf (h .outcome) y) (h .words) (h .lasts) out (p .written)
 
     abbrev o : List ℕ
-    o = laidText (lineOf (h .outcome) y) (h .words) out (p .written)
+    o = laidText (lineOf (h .outcome) y) (h .words) (h .lasts) out (p .written)
 
     laid-line : (w ≡ p .written + length (lineIn h)) × (o ≡ withText out (p .written) (lineIn h))
     laid-line =
-        let few = words-few (s .box) y in
+        let few = few-shown (s .box) y in
         let f = ready .few in
-        laid-with-room (lineOf (h .outcome) y) (h .words) out (p .written) (omega (arith, few, f)) room-here
+        laid-with-room (lineOf (h .outcome) y) (h .words) (h .lasts) out (p .written) (omega (arith, few, f)) room-here
 
     lines-laid : take w o ≡ s .lines ++ lineIn h
     lines-laid =

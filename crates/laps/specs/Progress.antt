@@ -94,7 +94,7 @@ linesLeft p = cond (p .ended) 0 (1 + (p .input .end - p .input .at + 5) / 6)
 pub record CanLay (p : Progress) (size room words : ℕ) : Type 0 where
   pub within : Within (p .input) size
   pub room-left : p .written + longest * linesLeft p ≤ room
-  pub few : words ≤ 8
+  pub few : words ≤ 16
 
 -- a run between two passes: fewer than 10 bytes are left, and whatever the next read gives, there is room for its lines
 pub record Rests (p : Progress) (size room words : ℕ) : Type 0 where
@@ -102,4 +102,4 @@ pub record Rests (p : Progress) (size room words : ℕ) : Type 0 where
   pub short : p .input .end - p .input .at < 10
   pub size-of-input : 10 ≤ size
   pub size-of-output : longest * (1 + (size + 5) / 6) ≤ room
-  pub few : words ≤ 8
+  pub few : words ≤ 16

@@ -8,7 +8,8 @@ use streams::input::Input;
 use unbounded::Process;
 ghost use mathlib.Core.Path.{_≡_};
 ghost use Prim.Native.Nat.{_+_, _<_};
-ghost use lib.ListN.{length, take, replicate};
+ghost use lib.ListN.{length, replicate};
+ghost use Rattle.snapshot.specs.Values.{wordsIn, lastsIn};
 ghost use Rattle.unbounded.specs.Processes.{zeroProcess};
 ghost use Rattle.daytext.specs.Buffer.{laidPlace, laidText};
 ghost use Rattle.streams.specs.Input.{Within};
@@ -63,7 +64,6 @@ pub fn start() -> Running
 pub fn refilled(r: Running, input: Input) -> Running
     ensures { λ x. ⌜ (x .progress ≡ refilledProgress (r .progress) input) × (x .table ≡ r .table) ⌝ }
 {
-    let table = r.table;
     let before = r.progress;
     let day = before.day;
     let progress = Progress {
@@ -72,14 +72,15 @@ pub fn refilled(r: Running, input: Input) -> Running
         written: 0,
         ended: before.ended,
     };
-    with_table(progress, table)
+    let mut x = r;
+    x.progress = progress;
+    x
 }
 
 // After the output was written, or could not be.
 pub fn flushed(r: Running, went: bool) -> Running
     ensures { λ x. ⌜ (x .progress ≡ flushedProgress (r .progress) went) × (x .table ≡ r .table) ⌝ }
 {
-    let table = r.table;
     let at = r.progress;
     let day = at.day;
     let input = at.input;
@@ -90,7 +91,9 @@ pub fn flushed(r: Running, went: bool) -> Running
         written: at.written,
         ended,
     };
-    with_table(progress, table)
+    let mut x = r;
+    x.progress = progress;
+    x
 }
 
 // Whether there is another lap: the next record lies whole in the input, or no more will come. That the output has room for its line
@@ -160,9 +163,11 @@ fn closed(at: Progress, day: Day, written: usize, end: bool) -> Progress
 fn past(at: Progress, x: Reading, o: Outcome, page: &[u32], out: &mut [u8]) -> Progress
     requires { ⌜ Takes x (at .input) ⌝ }
     ensures { λ p. ⌜ p ≡ progressPast at (o .day)
-        (laidPlace (lineOf o x) (take (o .day .count) (now (page .entry))) (now (out .entry)) (at .written)) x ⌝ }
+        (laidPlace (lineOf o x) (wordsIn (o .day .count) (now (page .entry))) (lastsIn (o .day .count) (now (page .entry)))
+        (now (out .entry)) (at .written)) x ⌝ }
     ensures { λ p. ⌜ now (out .exit) ≡
-        laidText (lineOf o x) (take (o .day .count) (now (page .entry))) (now (out .entry)) (at .written) ⌝ }
+        laidText (lineOf o x) (wordsIn (o .day .count) (now (page .entry))) (lastsIn (o .day .count) (now (page .entry)))
+        (now (out .entry)) (at .written) ⌝ }
 {
     let input = at.input;
     let day = o.day;

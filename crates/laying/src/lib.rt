@@ -11,11 +11,11 @@ ghost use Rattle.daytext.specs.Lines.{bodyOf};
 ghost use Rattle.daytext.specs.Buffer.{laidPlace, laidText};
 
 // Lays what a line tells, without its line feed.
-fn body(line: Line, words: &[u32], out: &mut [u8], at: usize) -> usize
-    requires { ⌜ length (now words) ≤ 8 ⌝ }
-    requires { ⌜ at + 255 ≤ length (now out) ⌝ }
-    ensures { λ r. ⌜ Laid (now (out .entry)) at (bodyOf line (now (words .entry))) (now (out .exit)) r ⌝ }
-    ensures { λ r. ⌜ r ≤ at + 255 ⌝ }
+fn body(line: Line, words: &[u32], lasts: &[u32], out: &mut [u8], at: usize) -> usize
+    requires { ⌜ length (now words) + length (now lasts) ≤ 16 ⌝ }
+    requires { ⌜ at + 271 ≤ length (now out) ⌝ }
+    ensures { λ r. ⌜ Laid (now (out .entry)) at (bodyOf line (now (words .entry)) (now (lasts .entry))) (now (out .exit)) r ⌝ }
+    ensures { λ r. ⌜ r ≤ at + 271 ⌝ }
 {
     match line {
         Line::Opened { count } => field(b"open ", count, out, at),
@@ -37,20 +37,23 @@ fn body(line: Line, words: &[u32], out: &mut [u8], at: usize) -> usize
             lender,
             at: instant,
             turns,
-        } => pagetext::page(n, process, lender, instant, turns, words, out, at),
+        } => pagetext::page(n, process, lender, instant, turns, words, lasts, out, at),
         Line::BookPage { number: n, process } => pagetext::book_page(n, process, words, out, at),
         Line::Refused { number: n } => field(b"refused ", n, out, at),
         Line::End { event: n } => field(b"end ", n, out, at),
     }
 }
 
-// Lays the line at `at` of `out` and answers the place after it; `words` are those of a page. Where there are more than 8 words,
-// or fewer than LONGEST bytes are left, `out` stays as it is and the answer is `at`.
-pub fn lay(line: Line, words: &[u32], out: &mut [u8], at: usize) -> usize
-    ensures { λ r. ⌜ r ≡ laidPlace line (now (words .entry)) (now (out .entry)) at ⌝ }
-    ensures { λ _. ⌜ now (out .exit) ≡ laidText line (now (words .entry)) (now (out .entry)) at ⌝ }
+// Lays the line at `at` of `out` and answers the place after it; `words` are those of a page, and `lasts` the numbers of their last
+// writings. Where there are more than 16 of both, or fewer than LONGEST bytes are left, `out` stays as it is and the answer is `at`.
+pub fn lay(line: Line, words: &[u32], lasts: &[u32], out: &mut [u8], at: usize) -> usize
+    ensures { λ r. ⌜ r ≡ laidPlace line (now (words .entry)) (now (lasts .entry)) (now (out .entry)) at ⌝ }
+    ensures { λ _. ⌜ now (out .exit) ≡ laidText line (now (words .entry)) (now (lasts .entry)) (now (out .entry)) at ⌝ }
 {
-    if 8 < words.len() {
+    if 16 < words.len() {
+        return at;
+    }
+    if 16 - words.len() < lasts.len() {
         return at;
     }
     if out.len() < LONGEST {
@@ -59,6 +62,6 @@ pub fn lay(line: Line, words: &[u32], out: &mut [u8], at: usize) -> usize
     if out.len() - LONGEST < at {
         return at;
     }
-    let end = body(line, words, out, at);
+    let end = body(line, words, lasts, out, at);
     texts::byte(b'\n', out, end)
 }

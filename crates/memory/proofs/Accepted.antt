@@ -8,6 +8,7 @@ use mathlib.Core.List.{List, [], map, foldl}
 use mathlib.Core.Option.{Option, none, some}
 use lib.Dec.{T}
 use lib.ListN.{length, getD, set, replicate, length-replicate}
+use Rattle.snapshot.specs.Values.{pagePlaces}
 use Rattle.snapshot.specs.Requests.{numberIn}
 use Rattle.snapshot.specs.Demand.{Result, step}
 use Rattle.snapshot.specs.Days.{State, Item, openFor, pageLent, openedBy, advance, calledBy, accept}
@@ -230,11 +231,11 @@ module _ (day : Day) (ps : List Process) where
           turns = few .1;
         }
 
-    pub page-long : day .count ≤ length page
+    pub page-long : pagePlaces (day .count) ≤ length page
     page-long = accepted-turn (figure3 ascending) (λ n. refl) s page x item turns accepted .1
 
     pub page-fits : RoomFor (accessOf day (p .task)) page
-    page-fits = subst (λ n. n ≤ length page) (sym (access-count day (p .task))) page-long
+    page-fits = subst (λ n. pagePlaces n ≤ length page) (sym (access-count day (p .task))) page-long
 
     busy : isIdle (p .task) ≡ false
     busy = accepted-turn (figure3 ascending) (λ n. refl) s page x item turns accepted .2

@@ -1,4 +1,4 @@
--- What a turn takes for granted of the record that it is lent, and of its table: an accepted turn finds it so (proofs/Accepted).
+-- What a turn takes for granted of the table that it is lent: an accepted turn finds it so (proofs/Accepted).
 use Prim.Native.Nat.{ℕ, _≤_, _<_}
 use mathlib.Core.Path.{_≡_}
 use mathlib.Core.List.{List}
@@ -10,16 +10,8 @@ use Rattle.unbounded.specs.declared.Task.{Task}
 use Rattle.unbounded.specs.Processes.{noProcess, turnsOf}
 use Rattle.unbounded_accesses.specs.declared.Access.{Access}
 use Rattle.unbounded_tasks.specs.declared.Find.{Find}
-use Rattle.unbounded_accesses.specs.Accesses.{Admits, Sound, accessOf, registerIn}
+use Rattle.unbounded_accesses.specs.Accesses.{Admits, accessOf, registerIn}
 use Rattle.unbounded_finds.specs.Finds.{findOf}
-
--- an access within its double collect, a search that passed at most eight processes, and a record with room for one write and one
--- turn more
-pub record Turning (a : Access) (f : Find) (p : Process) : Type 0 where
-  pub sound : Sound a
-  pub passed : f .passed ≤ 8
-  pub seq : p .register .seq < 4294967295
-  pub turns : turnsOf (p .task) < 4294967295
 
 -- record i of a table for the day's processes, with task k
 pub record TurnAt (day : Day) (ps : List Process) (i : ℕ) (k : Task) : Type 0 where

@@ -1,14 +1,15 @@
-// The records of the lent table: each function takes one out, or lends one on, and asks a function on a record by value
-// (crate `unbounded_turns`). None knows a part of a day, a task or a collect.
+// The records of the lent table: each function takes one out and asks a function on a record by value, or lends one on to be
+// changed (crate `unbounded_own`). None knows a part of a day, a task or a collect.
 use table_surveys::Survey;
 use unbounded::Process;
 use unbounded::Register;
 use unbounded::Task;
 use unbounded_accesses::Access;
 use unbounded_finds::finds;
+use unbounded_own::begin_own;
+use unbounded_own::turn_own;
 use unbounded_surveys::surveys;
 use unbounded_tasks::Find;
-use unbounded_tasks::tasks;
 use unbounded_turns::records;
 ghost use mathlib.Core.Path.{_≡_};
 ghost use mathlib.Core.List.{map, foldl};
@@ -19,7 +20,7 @@ ghost use Rattle.unbounded_accesses.specs.Accesses.{Sound};
 ghost use Rattle.unbounded_finds.specs.Finds.{findOf};
 ghost use Rattle.unbounded_turns.specs.Steps.{begunBy, stateBy};
 ghost use Rattle.unbounded_surveys.specs.Surveys.{surveyedBy};
-ghost use Rattle.memory.specs.Turning.{Turning};
+ghost use Rattle.unbounded_own.specs.Turning.{Turning};
 
 // What a look at every record finds, from what was found before.
 pub fn survey(ps: &[Process], start: Survey) -> Survey
@@ -77,18 +78,7 @@ pub fn find_at(ps: &[Process], i: usize, a: Access, r: Register) -> Find
     finds::find_page(a, r, ps[i])
 }
 
-// A record with task k and nothing collected.
-fn begin_own(p: &mut Process, a: Access, k: Task)
-    requires { ⌜ Sound a ⌝ }
-    ensures { λ r. ⌜ now (p .exit) ≡ begunBy a k (now (p .entry)) ⌝ }
-{
-    let old = *p;
-    let empty = records::begun(a, old);
-    *p = empty;
-    p.task = k;
-}
-
-// The same for record i of the table.
+// Record i with task k and nothing collected.
 pub fn begin_at(ps: &mut [Process], i: usize, a: Access, k: Task)
     requires { ⌜ (i < length (now ps)) × Sound a ⌝ }
     ensures { λ r. ⌜ now (ps .exit) ≡ set (now (ps .entry)) i (begunBy a k (getD (now (ps .entry)) i noProcess)) ⌝ }
@@ -96,27 +86,7 @@ pub fn begin_at(ps: &mut [Process], i: usize, a: Access, k: Task)
     begin_own(&mut ps[i], a, k);
 }
 
-// The turn of one process on its own record: its access read r and found f.
-fn turn_own(p: &mut Process, a: Access, r: Register, f: Find)
-    requires { ⌜ Turning a f (now p) ⌝ }
-    ensures { λ x. ⌜ now (p .exit) ≡ stateBy a r (now (p .entry)) f (now (p .entry) .task) ⌝ }
-{
-    let k = p.task;
-    if tasks::ends(k, f) {
-        let own = records::written(a, *p);
-        p.register = own;
-        let none = tasks::idle();
-        begin_own(p, a, none);
-        return;
-    }
-    let old = *p;
-    let q = records::read(a, r, k, f, old);
-    *p = q;
-    let next = tasks::task_after(k, f);
-    p.task = next;
-}
-
-// The same for record i of the table.
+// The turn of the process of record i: its access read r and found f.
 pub fn turn_at(ps: &mut [Process], i: usize, a: Access, r: Register, f: Find)
     requires { ⌜ (i < length (now ps)) × Turning a f (getD (now ps) i noProcess) ⌝ }
     ensures { λ x. ⌜ now (ps .exit) ≡ set (now (ps .entry)) i

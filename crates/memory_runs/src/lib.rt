@@ -56,8 +56,15 @@ pub fn run(
     ensures { λ x. ⌜ now (pages .exit) ≡
         runOn day (now (ps .entry)) (now (list .entry)) (now (answers .entry)) (now (pages .entry)) .pages ⌝ }
 {
-    let page = day.count;
-    let plan = runs::planned(day, ps.len(), page, list.len(), answers.len(), pages.len());
+    let values = day.count;
+    let plan = runs::planned(
+        day,
+        ps.len(),
+        values,
+        list.len(),
+        answers.len(),
+        pages.len(),
+    );
     let mut at = runs::begin(day);
     while runs::goes(at, plan) {
         let d = runs::process_at(list, at);

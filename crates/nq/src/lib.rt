@@ -18,7 +18,7 @@ ghost use Rattle.nq.specs.Requests.{version, runReply};
 pub extern "C" fn nq_step(
     count: u32,
     event: u32,
-    table: &mut [[u32; 208]],
+    table: &mut [[u32; 369]],
     kind: u32,
     process: u32,
     word: u32,
@@ -38,7 +38,7 @@ pub extern "C" fn nq_step(
 pub extern "C" fn nq_open(
     count: u32,
     event: u32,
-    table: &mut [[u32; 208]],
+    table: &mut [[u32; 369]],
     processes: u32,
 ) -> ReplyNumbers
     ensures { λ r. ⌜ r ≡ replyTo (steppedIn (dayWith count event) (now (table .entry)) (Open processes) []) ⌝ }
@@ -54,7 +54,7 @@ pub extern "C" fn nq_open(
 pub extern "C" fn nq_entry(
     count: u32,
     event: u32,
-    table: &mut [[u32; 208]],
+    table: &mut [[u32; 369]],
     process: u32,
     word: u32,
 ) -> ReplyNumbers
@@ -71,7 +71,7 @@ pub extern "C" fn nq_entry(
 pub extern "C" fn nq_page(
     count: u32,
     event: u32,
-    table: &mut [[u32; 208]],
+    table: &mut [[u32; 369]],
     process: u32,
 ) -> ReplyNumbers
     ensures { λ r. ⌜ r ≡ replyTo (steppedIn (dayWith count event) (now (table .entry)) (Scan process) []) ⌝ }
@@ -87,7 +87,7 @@ pub extern "C" fn nq_page(
 pub extern "C" fn nq_turn(
     count: u32,
     event: u32,
-    table: &mut [[u32; 208]],
+    table: &mut [[u32; 369]],
     process: u32,
     page: &mut [u32],
 ) -> ReplyNumbers
@@ -105,7 +105,7 @@ pub extern "C" fn nq_turn(
 pub extern "C" fn nq_run(
     count: u32,
     event: u32,
-    table: &mut [[u32; 208]],
+    table: &mut [[u32; 369]],
     processes: &[u32],
     replies: &mut [[u32; 7]],
     pages: &mut [u32],
@@ -135,5 +135,5 @@ pub extern "C" fn nq_read(bytes: &[u8]) -> RecordNumbers
 pub extern "C" fn nq_version() -> u32
     ensures { λ v. ⌜ v ≡ version ⌝ }
 {
-    2
+    3
 }

@@ -22,13 +22,15 @@ unknown-task ws h =
     let three = ne-eqb k 3 (λ q. omega (arith, h, q)) in
     simp (none, one, two, three)
 
-pub unknown-unsound : (n e : ℕ) (ws : List ℕ) → n ≤ 8 → 3 < wordAt ws 11 → unsound (mostReads n) e (unpackRecord ws) ≡ true
+pub unknown-unsound : (n e : ℕ) (ws : List ℕ) → n ≤ 8 → 3 < wordAt ws 20 → unsound (mostReads n) e (unpackRecord ws) ≡ true
 unfolding unsound unpackRecord mostReads
 unknown-unsound n e ws few h =
     let r = unpackRegister ws in
-    let kind = subst (λ k. 3 < k) (sym (getD-drop 11 ws 0 0)) h in
+    let kind = subst (λ k. 3 < k) (sym (getD-drop 20 ws 0 0)) h in
     let square = mul-le-mul few few in
     let late = le-leb (2 * (n * n)) 4294967295 (omega (arith, square)) in
-    ap (λ k. ltb e (r .seq) || (ltb e (r .at) || overdue (2 * (n * n)) k)) (unknown-task (drop 11 ws) kind)
-    ∙ ap (λ b. ltb e (r .seq) || (ltb e (r .at) || b)) late
-    ∙ ap (λ b. ltb e (r .seq) || b) (or-true (ltb e (r .at))) ∙ or-true (ltb e (r .seq))
+    let before = ltb e (r .seq) in
+    ap (λ k. before || (ltb e (r .at) || (ltb e (r .value .last) || overdue (2 * (n * n)) k))) (unknown-task (drop 20 ws) kind)
+    ∙ ap (λ b. before || (ltb e (r .at) || (ltb e (r .value .last) || b))) late
+    ∙ ap (λ b. before || (ltb e (r .at) || b)) (or-true (ltb e (r .value .last)))
+    ∙ ap (λ b. before || b) (or-true (ltb e (r .at))) ∙ or-true before

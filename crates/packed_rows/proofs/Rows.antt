@@ -25,7 +25,7 @@ pub record-is : (t : List (List ℕ)) (i : ℕ) → i < length t → getD (unpac
 record-is t i l = getD-map-below unpackRecord t i [] noProcess l
 
 pub task-is : (t : List (List ℕ)) (i : ℕ) → i < length t →
-    unpackTask (drop 11 (getD t i [])) ≡ getD (unpackedAll t) i noProcess .task
+    unpackTask (drop 20 (getD t i [])) ≡ getD (unpackedAll t) i noProcess .task
 unfolding unpackRecord
 task-is t i l = ap (λ p. p .task) (sym (record-is t i l))
 
@@ -56,7 +56,7 @@ cleared-all w t i e =
     ∙ (λ k. take-all (length t) (map (λ v. w) t) (omega arith) k ++ drop-length t k)
     ∙ append-nil (map (λ v. w) t)
 
-pub zero-words : packRecord zeroProcess ≡ replicate 208 0
+pub zero-words : packRecord zeroProcess ≡ replicate 369 0
 unfolding packRecord
 zero-words = refl
 

@@ -8,6 +8,7 @@ use lib.ListN.{length, take, drop}
 use Rattle.snapshot.specs.declared.Day.{Day}
 use Rattle.snapshot.specs.declared.Refusal.{Refusal}
 use Rattle.snapshot.specs.declared.Request.the-variants.{Turn}
+use Rattle.snapshot.specs.Values.{pagePlaces}
 use Rattle.snapshot.specs.Refusals.{firstCause}
 use Rattle.snapshot.specs.Days.{State}
 use Rattle.snapshot.specs.Runs.{RunResult, runCauses, turnsFrom, runUnless, giveTurn, ran}
@@ -31,7 +32,7 @@ unpackedRun r =
       pages = r .pages;
     }
 
--- the run on words is that on records, and every row has its 208 words again
+-- the run on words is that on records, and every row has its 369 words again
 abbrev Same : RunResult (State (List ℕ)) (List ℕ) → RunResult (State Process) (List ℕ) → Type 0
 Same r q = (unpackedRun r ≡ q) × LongRows (r .state .table)
 
@@ -56,16 +57,16 @@ pub run-unpacked : (d : Day) (t : List (List ℕ)) (ds : List ℕ) (replies : Li
 unfolding runIn ran
 run-unpacked d t ds replies pages long =
     subst (λ m. Same (runIn d t ds replies pages)
-    (runUnless (giveTurn (figure3 ascending)) toldIn n (found m) (stateOf d (unpackedAll t)) ds replies pages))
+    (runUnless (giveTurn (figure3 ascending)) toldIn places (found m) (stateOf d (unpackedAll t)) ds replies pages))
     (sym (records-long t)) (go (found (length t)))
   where
-    n : ℕ
-    n = d .count
+    places : ℕ
+    places = pagePlaces (d .count)
 
     found : ℕ → Option Refusal
-    found m = firstCause (runCauses n m n (length ds) (length replies) (length pages))
+    found m = firstCause (runCauses (d .count) m places (length ds) (length replies) (length pages))
 
-    go : (k : Option Refusal) → Same (runUnless giveIn toldIn n k (record { day = d; table = t }) ds replies pages)
-        (runUnless (giveTurn (figure3 ascending)) toldIn n k (stateOf d (unpackedAll t)) ds replies pages)
-    go none = turns-unpacked n ds d t replies pages long
+    go : (k : Option Refusal) → Same (runUnless giveIn toldIn places k (record { day = d; table = t }) ds replies pages)
+        (runUnless (giveTurn (figure3 ascending)) toldIn places k (stateOf d (unpackedAll t)) ds replies pages)
+    go none = turns-unpacked places ds d t replies pages long
     go (some k) = (refl, long)

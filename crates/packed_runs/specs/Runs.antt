@@ -5,6 +5,7 @@ use mathlib.Core.List.{List}
 use lib.ListN.{length, take, drop}
 use Rattle.snapshot.specs.declared.Day.{Day}
 use Rattle.snapshot.specs.declared.Request.the-variants.{Turn}
+use Rattle.snapshot.specs.Values.{pagePlaces}
 use Rattle.snapshot.specs.Refusals.{firstCause}
 use Rattle.snapshot.specs.Demand.{Result}
 use Rattle.snapshot.specs.Days.{State}
@@ -34,8 +35,9 @@ toldIn r = replyWords (replyTo r)
 unfoldable pub runIn : Day → (table : List (List ℕ)) → List ℕ → (replies : List (List ℕ)) → (pages : List ℕ) →
     RunResult (State (List ℕ)) (List ℕ)
 runIn d t ds replies pages =
-    let n = d .count in
-    runUnless giveIn toldIn n (firstCause (runCauses n (length t) n (length ds) (length replies) (length pages)))
+    let places = pagePlaces (d .count) in
+    runUnless giveIn toldIn places
+    (firstCause (runCauses (d .count) (length t) places (length ds) (length replies) (length pages)))
     (record { day = d; table = t }) ds replies pages
 
 -- the turn of process d where a run has come so far

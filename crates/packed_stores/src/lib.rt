@@ -1,4 +1,4 @@
-// Each part of a process record laid over its place in the record's 208 words, which crate `packed` unpacks.
+// Each part of a process record laid over its place in the record's 369 words, which crate `packed` unpacks.
 use packed::FIRST;
 use packed::FIRST_END;
 use packed::MARKS;
@@ -6,6 +6,7 @@ use packed::REGISTER;
 use packed::SECOND;
 use packed::TASK;
 use packed::VIEW;
+use snapshot::Value;
 use unbounded::Process;
 use unbounded::Register;
 use unbounded::Task;
@@ -14,35 +15,39 @@ ghost use mathlib.Core.List.{[], _∷_, map};
 ghost use Prim.Native.Nat.{_+_, _*_, _≤_, _<_};
 ghost use lib.ListN.{length, take, set};
 ghost use lib.Seq.{sets};
-ghost use Rattle.packed.specs.Packing.{packRegister, packTask, packCollect, packMark, packRecord, storedAt};
+ghost use Rattle.packed.specs.Packing.{packView, packRegister, packTask, packCollect, packMark, packRecord, storedAt};
 
-// The first n of eight words.
-fn lay_words(w: &mut [u32; 208], a: usize, n: usize, v: [u32; 8])
-    requires { ⌜ (a + 8 ≤ 208) × (n ≤ 8) ⌝ }
-    ensures { λ _. ⌜ now (w .exit) ≡ sets (now (w .entry)) a (take n v) ⌝ }
+// The first n of eight values.
+fn lay_view(w: &mut [u32; 369], a: usize, n: usize, v: [Value; 8])
+    requires { ⌜ (a + 16 ≤ 369) × (n ≤ 8) ⌝ }
+    ensures { λ _. ⌜ now (w .exit) ≡ sets (now (w .entry)) a (packView (take n v)) ⌝ }
 {
     let mut i = 0;
     while i < n {
-        w[a + i] = v[i];
+        let x = v[i];
+        w[a + 2 * i] = x.word;
+        w[a + 2 * i + 1] = x.last;
         i += 1;
     }
 }
 
-// A register, with the first n words of its view: the words past them stay.
-fn lay_register(w: &mut [u32; 208], a: usize, n: usize, r: Register)
-    requires { ⌜ (a + 11 ≤ 208) × (n ≤ 8) ⌝ }
+// A register, with the first n values of its view: the words past them stay.
+fn lay_register(w: &mut [u32; 369], a: usize, n: usize, r: Register)
+    requires { ⌜ (a + 20 ≤ 369) × (n ≤ 8) ⌝ }
     ensures { λ _. ⌜ now (w .exit) ≡ storedAt n r a (now (w .entry)) ⌝ }
     ensures { λ _. ⌜ length (r .view) ≡ 8 ⌝ }
 {
+    let x = r.value;
     let v = r.view;
-    w[a] = r.word;
-    w[a + 1] = r.seq;
-    lay_words(w, a + 2, n, v);
-    w[a + 10] = r.at;
+    w[a] = x.word;
+    w[a + 1] = x.last;
+    w[a + 2] = r.seq;
+    lay_view(w, a + 3, n, v);
+    w[a + 19] = r.at;
 }
 
 // The record's own register.
-pub fn lay_own(w: &mut [u32; 208], r: Register)
+pub fn lay_own(w: &mut [u32; 369], r: Register)
     ensures { λ _. ⌜ now (w .exit) ≡ sets (now (w .entry)) 0 (packRegister r) ⌝ }
     ensures { λ _. ⌜ length (r .view) ≡ 8 ⌝ }
 {
@@ -50,8 +55,8 @@ pub fn lay_own(w: &mut [u32; 208], r: Register)
 }
 
 // Four words.
-fn lay_four(w: &mut [u32; 208], a: usize, kind: u32, word: u32, at: u32, turns: u32)
-    requires { ⌜ a + 4 ≤ 208 ⌝ }
+fn lay_four(w: &mut [u32; 369], a: usize, kind: u32, word: u32, at: u32, turns: u32)
+    requires { ⌜ a + 4 ≤ 369 ⌝ }
     ensures { λ _. ⌜ now (w .exit) ≡ sets (now (w .entry)) a (kind ∷ word ∷ at ∷ turns ∷ []) ⌝ }
 {
     w[a] = kind;
@@ -60,8 +65,8 @@ fn lay_four(w: &mut [u32; 208], a: usize, kind: u32, word: u32, at: u32, turns: 
     w[a + 3] = turns;
 }
 
-pub fn lay_task(w: &mut [u32; 208], k: Task)
-    ensures { λ _. ⌜ now (w .exit) ≡ sets (now (w .entry)) 11 (packTask k) ⌝ }
+pub fn lay_task(w: &mut [u32; 369], k: Task)
+    ensures { λ _. ⌜ now (w .exit) ≡ sets (now (w .entry)) 20 (packTask k) ⌝ }
 {
     match k {
         Task::Idle => lay_four(w, TASK, 0, 0, 0, 0),
@@ -71,35 +76,35 @@ pub fn lay_task(w: &mut [u32; 208], k: Task)
     }
 }
 
-// Register r, with the first n words of its view, read into a place of the collects: those of the first are 0 to 7, of the second 8 to
+// Register r, with the first n values of its view, read into a place of the collects: those of the first are 0 to 7, of the second 8 to
 // 15.
-pub fn lay_place(w: &mut [u32; 208], place: usize, n: usize, r: Register)
+pub fn lay_place(w: &mut [u32; 369], place: usize, n: usize, r: Register)
     requires { ⌜ (place < 16) × (n ≤ 8) ⌝ }
-    ensures { λ _. ⌜ now (w .exit) ≡ storedAt n r (15 + 11 * place) (now (w .entry)) ⌝ }
+    ensures { λ _. ⌜ now (w .exit) ≡ storedAt n r (24 + 20 * place) (now (w .entry)) ⌝ }
     ensures { λ _. ⌜ length (r .view) ≡ 8 ⌝ }
 {
     lay_register(w, FIRST + REGISTER * place, n, r)
 }
 
 // The end of the first collect.
-pub fn lay_end(w: &mut [u32; 208], end: u32)
-    ensures { λ _. ⌜ now (w .exit) ≡ set (now (w .entry)) 191 end ⌝ }
+pub fn lay_end(w: &mut [u32; 369], end: u32)
+    ensures { λ _. ⌜ now (w .exit) ≡ set (now (w .entry)) 344 end ⌝ }
 {
     w[FIRST_END] = end;
 }
 
-// The first n words of the view that the record keeps.
-pub fn lay_kept(w: &mut [u32; 208], n: usize, v: [u32; 8])
+// The first n values of the view that the record keeps.
+pub fn lay_kept(w: &mut [u32; 369], n: usize, v: [Value; 8])
     requires { ⌜ n ≤ 8 ⌝ }
-    ensures { λ _. ⌜ now (w .exit) ≡ sets (now (w .entry)) 192 (take n v) ⌝ }
+    ensures { λ _. ⌜ now (w .exit) ≡ sets (now (w .entry)) 345 (packView (take n v)) ⌝ }
 {
-    lay_words(w, VIEW, n, v)
+    lay_view(w, VIEW, n, v)
 }
 
-fn lay_collect(w: &mut [u32; 208], a: usize, rs: [Register; 8])
-    requires { ⌜ a + 88 ≤ 208 ⌝ }
+fn lay_collect(w: &mut [u32; 369], a: usize, rs: [Register; 8])
+    requires { ⌜ a + 160 ≤ 369 ⌝ }
     ensures { λ _. ⌜ now (w .exit) ≡ sets (now (w .entry)) a (packCollect rs) ⌝ }
-    ensures { λ _. ⌜ length (packCollect rs) ≡ 88 ⌝ }
+    ensures { λ _. ⌜ length (packCollect rs) ≡ 160 ⌝ }
 {
     let mut i = 0;
     while i < 8 {
@@ -114,8 +119,8 @@ fn mark_word(m: bool) -> u32
     if m { 1 } else { 0 }
 }
 
-pub fn lay_marks(w: &mut [u32; 208], ms: [bool; 8])
-    ensures { λ _. ⌜ now (w .exit) ≡ sets (now (w .entry)) 200 (map packMark ms) ⌝ }
+pub fn lay_marks(w: &mut [u32; 369], ms: [bool; 8])
+    ensures { λ _. ⌜ now (w .exit) ≡ sets (now (w .entry)) 361 (map packMark ms) ⌝ }
 {
     let mut i = 0;
     while i < 8 {
@@ -124,7 +129,7 @@ pub fn lay_marks(w: &mut [u32; 208], ms: [bool; 8])
     }
 }
 
-pub fn lay_record(w: &mut [u32; 208], p: Process)
+pub fn lay_record(w: &mut [u32; 369], p: Process)
     ensures { λ _. ⌜ now (w .exit) ≡ sets (now (w .entry)) 0 (packRecord p) ⌝ }
 {
     let register = p.register;

@@ -1,5 +1,5 @@
 -- Requests on words chain as the step of the definitions does: the words after a request are the records that it leaves
--- (`unpacked-after`), and every row has its 208 words again (`long-after`).
+-- (`unpacked-after`), and every row has its 369 words again (`long-after`).
 use Prim.Native.Nat.{ℕ, zero, suc, _+_, _-_, _≤_, _<_}
 use native.Mathlib.Nat.{not-suc-le-zero}
 use native.Mathlib.Omega.{arith}
@@ -17,6 +17,7 @@ use Rattle.snapshot.specs.Requests.{numberIn}
 use Rattle.snapshot.specs.Demand.{Result}
 use Rattle.snapshot.specs.Days.{State, readFrom, advance, calledBy, turnBy, openedBy, accept}
 use Rattle.snapshot.specs.declared.Day.{Day}
+use Rattle.snapshot.specs.declared.Value.{Value}
 use Rattle.snapshot.specs.declared.Answer.{Answer}
 use Rattle.snapshot.specs.declared.Refusal.{Refusal}
 use Rattle.snapshot.specs.declared.Request.{Request}
@@ -69,18 +70,18 @@ module _ (n : ℕ) (eight : n ≤ 8) (p : Process) (e : Eights p) where
   begun-eights k = (whole-begin n eight p (e .0) k, begun-marks k)
 
   module _ (now : ℕ) (r : Register) (page : List ℕ) where
-    read-marks : (pos : ℕ) (k : Task) (v : List ℕ) → length (afterRead ascending n now pos r p k v .moved) ≡ 8
+    read-marks : (pos : ℕ) (k : Task) (v : List Value) → length (afterRead ascending n now pos r p k v .moved) ≡ 8
     unfolding afterRead marksAfter
     read-marks pos k v =
         let a = firstAfter n pos r (p .first) in
         let b = secondAfter n pos r (p .second) in
         length-marks (differs ascending a b) (passed n (decision ascending n pos a b (p .moved))) 0 (p .moved) ∙ e .1
 
-    scan-marks : (t : ℕ) (f : Option (Found ℕ)) → length (scanTurn ascending n now r page p t f .state .moved) ≡ 8
+    scan-marks : (t : ℕ) (f : Option (Found Value)) → length (scanTurn ascending n now r page p t f .state .moved) ≡ 8
     scan-marks t none = read-marks (position n t) (Tasks.Scan (t + 1)) (p .view)
     scan-marks t (some f) = begun-eights Tasks.Idle .1
 
-    update-marks : (w t : ℕ) (f : Option (Found ℕ)) → length (updateTurn ascending n now r page p w t f .state .moved) ≡ 8
+    update-marks : (w t : ℕ) (f : Option (Found Value)) → length (updateTurn ascending n now r page p w t f .state .moved) ≡ 8
     update-marks w t none = read-marks (position n t) (Tasks.Update w (t + 1)) (p .view)
     update-marks w t (some f) = read-marks (position n t) _ _
 
@@ -101,7 +102,7 @@ module _ (n : ℕ) (eight : n ≤ 8) (p : Process) (e : Eights p) where
 -- ---- a record packed over a row
 
 -- the row is its words, and is unpacked as the record was
-pub over-unpacked : (ws : List ℕ) (q : Process) → length ws ≡ 208 → Eights q → unpackRecord (packedOver ws q) ≡ q
+pub over-unpacked : (ws : List ℕ) (q : Process) → length ws ≡ 369 → Eights q → unpackRecord (packedOver ws q) ≡ q
 over-unpacked ws q long e =
     ap unpackRecord (sets-all ws (packRecord q) (packed-long q e ∙ sym long)) ∙ unpack-packed q e
 
@@ -128,10 +129,10 @@ cleared-unpacked (p ∷ ps) = ap₂ {C = List Process} (λ q qs. q ∷ qs) zero-
 
 cleared-rows : (ps : List Process) → LongRows (map packRecord (map (λ p. zeroProcess) ps))
 cleared-rows [] i l = absurd (not-suc-le-zero l)
-cleared-rows (p ∷ ps) zero l = ap length zero-words ∙ length-replicate {A = ℕ} 208 0
+cleared-rows (p ∷ ps) zero l = ap length zero-words ∙ length-replicate {A = ℕ} 369 0
 cleared-rows (p ∷ ps) (suc i) l = cleared-rows ps i (omega arith)
 
--- the words after a request are the records that it leaves, and rows of 208 words
+-- the words after a request are the records that it leaves, and rows of 369 words
 abbrev After : List (List ℕ) → Request → Result (State Process) → Type 0
 After t x r = (unpackedAll (tableAfter t x r) ≡ r .state .table) × LongRows (tableAfter t x r)
 
@@ -242,14 +243,14 @@ after d t x page long = go (refusalIn (stateOf d (unpackedAll t)) (itemOf page x
 
 -- what a request leaves in the words are the records that it leaves
 pub unpacked-after : (d : Day) (t : List (List ℕ)) (x : Request) (page : List ℕ) →
-    ((i : ℕ) → i < length t → length (getD t i []) ≡ 208) →
+    ((i : ℕ) → i < length t → length (getD t i []) ≡ 369) →
     let r = steppedIn d t x page in unpackedAll (tableAfter t x r) ≡ r .state .table
 unpacked-after d t x page long = after d t x page long .0
 
--- and every row has its 208 words again
+-- and every row has its 369 words again
 pub long-after : (d : Day) (t : List (List ℕ)) (x : Request) (page : List ℕ) →
-    ((i : ℕ) → i < length t → length (getD t i []) ≡ 208) → let t′ = tableAfter t x (steppedIn d t x page) in
-    (i : ℕ) → i < length t′ → length (getD t′ i []) ≡ 208
+    ((i : ℕ) → i < length t → length (getD t i []) ≡ 369) → let t′ = tableAfter t x (steppedIn d t x page) in
+    (i : ℕ) → i < length t′ → length (getD t′ i []) ≡ 369
 long-after d t x page long = after d t x page long .1
 
 -- ---- a list of requests, each lent what the one before left

@@ -7,6 +7,8 @@ use mathlib.Core.List.{List, map}
 use lib.ListN.{length, take, set, replicate}
 use lib.Seq.{sets, length-take-le}
 use Rattle.snapshot.specs.Lists.{over}
+use Rattle.snapshot.specs.Values.{zeroValue}
+use Rattle.snapshot.specs.declared.Value.{Value}
 use Rattle.snapshot.specs.Marks.{noneMoved}
 use Rattle.snapshot.proofs.Lists.{length-over}
 use Rattle.unbounded.specs.declared.Register.{Register}
@@ -17,7 +19,7 @@ use Rattle.unbounded.specs.Processes.{begin}
 use Rattle.unbounded_turns.specs.Steps.{withTask}
 use Rattle.unbounded_turns.proofs.Parts.{withCollected}
 use Rattle.unbounded_turns.proofs.Clearing.{clear-more}
-use Rattle.packed.specs.Packing.{storedAt, packTask, packMark, packedOver, unpackRecord}
+use Rattle.packed.specs.Packing.{packView, storedAt, packTask, packMark, packedOver, unpackRecord}
 use Rattle.packed.proofs.Packing.{Eights, unpack-whole}
 use Rattle.packed_turns.proofs.Laid.{end-laid, view-laid, first-read, first-laid, second-laid, first-eights, second-eights}
 use Rattle.packed_turns.proofs.Laid.{eights-with, tidied}
@@ -27,7 +29,7 @@ use Rattle.packed_turns.proofs.Laid.{eights-with, tidied}
 -- z stored in each
 abbrev pub placedTo : ℕ → Register → ℕ → List ℕ → List ℕ
 placedTo n z zero ws = ws
-placedTo n z (suc i) ws = storedAt n z (15 + 11 * (8 + i)) (storedAt n z (15 + 11 * i) (placedTo n z i ws))
+placedTo n z (suc i) ws = storedAt n z (24 + 20 * (8 + i)) (storedAt n z (24 + 20 * i) (placedTo n z i ws))
 
 module _ (ws : List ℕ) (n : ℕ) (b : n ≤ 8) (z : Register) (v : length (z .view) ≡ 8) where
   abbrev clearedTo : ℕ → Process → Process
@@ -56,8 +58,8 @@ module _ (ws : List ℕ) (n : ℕ) (b : n ≤ 8) (z : Register) (v : length (z .
         let c = clearedTo i q in
         let c′ = first-read ws c (before .1) n z i b v h in
         let e′ = first-eights ws c (before .1) n z i b v h in (
-          ap (λ l. storedAt n z (15 + 11 * (8 + i)) (storedAt n z (15 + 11 * i) l)) (before .0)
-              ∙ ap (storedAt n z (15 + 11 * (8 + i))) (first-laid ws c (before .1) n z i b v h)
+          ap (λ l. storedAt n z (24 + 20 * (8 + i)) (storedAt n z (24 + 20 * i) l)) (before .0)
+              ∙ ap (storedAt n z (24 + 20 * (8 + i))) (first-laid ws c (before .1) n z i b v h)
               ∙ second-laid ws c′ e′ n z i b v h
               ∙ ap (packedOver ws) (read-clears i h),
           subst Eights (read-clears i h) (second-eights ws c′ e′ n z i b v h),
@@ -67,22 +69,22 @@ module _ (ws : List ℕ) (n : ℕ) (b : n ≤ 8) (z : Register) (v : length (z .
 
 pub begun-words : (ws : List ℕ) (n : ℕ) → n ≤ 8 → (k : Task) →
     placedTo n zeroRegister n
-    (sets (set (sets (sets ws 11 (packTask k)) 200 (map packMark noneMoved)) 191 0) 192 (take n (replicate 8 0)))
+    (sets (set (sets (sets ws 20 (packTask k)) 361 (map packMark noneMoved)) 344 0) 345 (packView (take n (replicate 8 zeroValue))))
     ≡ packedOver ws (begin n k (unpackRecord ws))
 unfolding begin cleared
 begun-words ws n b k =
     let p = unpackRecord ws in
     let e = unpack-whole ws in
-    let view = over n (replicate 8 0) (p .view) in
+    let view = over n (replicate 8 zeroValue) (p .view) in
     let words = e .0 .view in
     let eights : length view ≡ 8 =
-    length-over n (replicate 8 0) (p .view) (length-take-le n (replicate 8 0) b) (omega arith) ∙ words in
-    let with : ℕ → List ℕ → Process = λ end v. withCollected (p .first) (p .second) end v noneMoved (withTask k p) in
+    length-over n (replicate 8 zeroValue) (p .view) (length-take-le n (replicate 8 zeroValue) b) (omega arith) ∙ words in
+    let with : ℕ → List Value → Process = λ end v. withCollected (p .first) (p .second) end v noneMoved (withTask k p) in
     let tidy = eights-with p e k (p .«first_end») (p .view) noneMoved words refl in
     let ended = eights-with p e k 0 (p .view) noneMoved words refl in
     let kept = eights-with p e k 0 view noneMoved eights refl in
     ap (placedTo n zeroRegister n)
-    (ap (λ l. sets (set l 191 0) 192 (take n (replicate 8 0))) (tidied ws k noneMoved refl)
-    ∙ ap (λ l. sets l 192 (take n (replicate 8 0))) (end-laid ws (with (p .«first_end») (p .view)) tidy 0)
-    ∙ view-laid ws (with 0 (p .view)) ended n (replicate 8 0) b refl)
+    (ap (λ l. sets (set l 344 0) 345 (packView (take n (replicate 8 zeroValue)))) (tidied ws k noneMoved refl)
+    ∙ ap (λ l. sets l 345 (packView (take n (replicate 8 zeroValue)))) (end-laid ws (with (p .«first_end») (p .view)) tidy 0)
+    ∙ view-laid ws (with 0 (p .view)) ended n (replicate 8 zeroValue) b refl)
     ∙ cleared-words ws n b zeroRegister refl (with 0 view) kept n b .0

@@ -31,14 +31,14 @@ module _ (a : Access) (sound : Sound a) (r : Register) (v : length (r .view) ≡
   n = a .n
 
   -- the read of an access in its place
-  read-laid : (ws : List ℕ) (q : Process) → Eights q → storedAt n r (15 + 11 * placeIn n (a .pos)) (packedOver ws q)
+  read-laid : (ws : List ℕ) (q : Process) → Eights q → storedAt n r (24 + 20 * placeIn n (a .pos)) (packedOver ws q)
       ≡ packedOver ws
       (withCollected (firstAfter n (a .pos) r (q .first)) (secondAfter n (a .pos) r (q .second)) (q .«first_end») (q .view) (q .moved) q)
   unfolding placeIn firstAfter secondAfter
   read-laid ws q e = go (ltb (a .pos) n)
     where
       go : (b : Bool) → let i = placeAt n (a .pos) in
-          storedAt n r (15 + 11 * cond b i (8 + i)) (packedOver ws q)
+          storedAt n r (24 + 20 * cond b i (8 + i)) (packedOver ws q)
           ≡ packedOver ws
           (withCollected (cond b (readInto n r i (q .first)) (q .first)) (cond b (q .second) (readInto n r i (q .second)))
           (q .«first_end») (q .view) (q .moved) q)
@@ -59,8 +59,8 @@ module _ (a : Access) (sound : Sound a) (r : Register) (v : length (r .view) ≡
   read-on p (Ready w at t) h = absurd h
 
   pub went-on : (ws : List ℕ) (k : Task) → T (not (isReady k)) → let p = unpackRecord ws in
-      storedAt n r (15 + 11 * placeIn n (a .pos))
-      (set (sets (sets ws 11 (packTask (taskBy (nothingFound 0) k))) 200 (map packMark (p .moved))) 191
+      storedAt n r (24 + 20 * placeIn n (a .pos))
+      (set (sets (sets ws 20 (packTask (taskBy (nothingFound 0) k))) 361 (map packMark (p .moved))) 344
       (endAfter n (a .pos) (a .now) (p .«first_end»)))
       ≡ packedOver ws (stateBy a r p (nothingFound 0) k)
   went-on ws k h =
@@ -71,8 +71,8 @@ module _ (a : Access) (sound : Sound a) (r : Register) (v : length (r .view) ≡
       let before = eights-with p e k′ (p .«first_end») (p .view) (p .moved) (e .0 .view) (e .1) in
       let after = eights-with p e k′ end (p .view) (p .moved) (e .0 .view) (e .1) in
       let with : ℕ → Process = λ end. withCollected (p .first) (p .second) end (p .view) (p .moved) (withTask k′ p) in
-      ap (storedAt n r (15 + 11 * placeIn n (a .pos)))
-      (ap (λ l. set l 191 end) (tidied ws k′ (p .moved) (e .1)) ∙ end-laid ws (with (p .«first_end»)) before end)
+      ap (storedAt n r (24 + 20 * placeIn n (a .pos)))
+      (ap (λ l. set l 344 end) (tidied ws k′ (p .moved) (e .1)) ∙ end-laid ws (with (p .«first_end»)) before end)
       ∙ read-laid ws (with end) after
       ∙ ap (packedOver ws) (read-on p k h)
 

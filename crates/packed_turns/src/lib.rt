@@ -1,5 +1,6 @@
 // The turns of Figure 3 on one packed record, in place: a call, a read and a write store the words that they change, the task and the
 // marks; a read that ends its double collect unpacks the record. Crate `unbounded_turns` has the same turns on a record by value.
+use snapshot::Value;
 use unbounded::Register;
 use unbounded::Task;
 use unbounded_accesses::Access;
@@ -21,16 +22,17 @@ ghost use Rattle.packed.specs.Packing.{packedOver, unpackRecord, unpackRegister
 ghost use Rattle.packed_turns.specs.Places.{placeIn};
 
 // The record with task k and nothing collected, as a call begins a task and the end of one leaves it.
-pub fn begin(w: &mut [u32; 208], a: Access, k: Task)
+pub fn begin(w: &mut [u32; 369], a: Access, k: Task)
     requires { ⌜ Sound a ⌝ }
     ensures { λ _. ⌜ now (w .exit) ≡ packedOver (now (w .entry)) (begunBy a k (unpackRecord (now (w .entry)))) ⌝ }
 {
     let n = a.n;
+    let unwritten = Value { word: 0, last: 0 };
     let none = collects::no_register();
     packed_stores::lay_task(w, k);
     packed_stores::lay_marks(w, [false; 8]);
     packed_stores::lay_end(w, 0);
-    packed_stores::lay_kept(w, n, [0; 8]);
+    packed_stores::lay_kept(w, n, [unwritten; 8]);
     let mut i = 0;
     while i < n {
         packed_stores::lay_place(w, i, n, none);
@@ -53,7 +55,7 @@ fn place_in(a: Access) -> usize
 }
 
 // A read of r that does not end its double collect, by a turn of task k.
-fn go_on(w: &mut [u32; 208], a: Access, r: Register, k: Task)
+fn go_on(w: &mut [u32; 369], a: Access, r: Register, k: Task)
     requires { ⌜ Sound a × (turnsOf k < 4294967295) × T (not (isReady k)) ⌝ }
     ensures { λ _. ⌜ now (w .exit) ≡
         packedOver (now (w .entry)) (stateBy a r (unpackRecord (now (w .entry))) (nothingFound 0) k) ⌝ }
@@ -67,7 +69,7 @@ fn go_on(w: &mut [u32; 208], a: Access, r: Register, k: Task)
 }
 
 // A read of r that ends its double collect, and what it finds.
-fn decide(w: &mut [u32; 208], a: Access, r: Register, k: Task) -> Find
+fn decide(w: &mut [u32; 369], a: Access, r: Register, k: Task) -> Find
     requires { ⌜ Sound a × (turnsOf k < 4294967295) × T (not (isReady k)) ⌝ }
     ensures { λ f. ⌜ f ≡ findOf a r (unpackRecord (now (w .entry))) ⌝ }
     ensures { λ f. ⌜ now (w .exit) ≡ packedOver (now (w .entry))
@@ -85,7 +87,7 @@ fn decide(w: &mut [u32; 208], a: Access, r: Register, k: Task) -> Find
 }
 
 // A reading turn of task k, whose access reads r, and what it finds.
-pub fn read(w: &mut [u32; 208], a: Access, r: Register, k: Task) -> Find
+pub fn read(w: &mut [u32; 369], a: Access, r: Register, k: Task) -> Find
     requires { ⌜ Sound a × (turnsOf k < 4294967295) × T (not (isReady k)) ⌝ }
     ensures { λ f. ⌜ f ≡ findOf a r (unpackRecord (now (w .entry))) ⌝ }
     ensures { λ f. ⌜ now (w .exit) ≡ packedOver (now (w .entry))
@@ -99,7 +101,7 @@ pub fn read(w: &mut [u32; 208], a: Access, r: Register, k: Task) -> Find
 }
 
 // The writing turn of task k, an update that is ready: it reads no register and finds nothing.
-pub fn write(w: &mut [u32; 208], a: Access, k: Task)
+pub fn write(w: &mut [u32; 369], a: Access, k: Task)
     requires { ⌜ Sound a × (unpackRegister (now w) .seq < 4294967295) × T (isReady k) ⌝ }
     ensures { λ _. ⌜ now (w .exit) ≡
         packedOver (now (w .entry)) (stateBy a zeroRegister (unpackRecord (now (w .entry))) (nothingFound 0) k) ⌝ }

@@ -1,4 +1,4 @@
--- A product that may have more than 64 bits, compared by the lower 32 bits of one factor and the upper ones.
+-- A product that may have more than 64 bits, compared by the lower 32 bits of one factor and the upper ones; and two words a value.
 use Prim.Native.Nat.{ℕ, _+_, _-_, _*_, _/_, _%_, _≤_, _<_}
 use native.Mathlib.Nat.{mul-le-mul, mod-add-div'}
 use native.Mathlib.Decide.{decLt}
@@ -6,6 +6,7 @@ use native.Mathlib.Omega.{arith}
 use mathlib.Core.Path.{_≡_, sym, ap, _∙_}
 use mathlib.Core.Logic.{by-cases}
 use lib.Dec.{ltb}
+use Rattle.snapshot.specs.Values.{pagePlaces}
 use borrow.Author.Tests.{lt-ltb, le-ltb}
 
 -- a product of two numbers of 32 bits
@@ -36,3 +37,11 @@ module _ (t p : ℕ) where
       by-cases (decLt (d / 4294967296) m)
       (λ h. lt-ltb (d / 4294967296) m h ∙ sym (lt-ltb w (t * p) (omega (arith, e, h, l))))
       (λ h. le-ltb (d / 4294967296) m (omega (arith, h)) ∙ sym (le-ltb w (t * p) (omega (arith, e, h, l))))
+
+-- where each of t turns asks for p values of two words, w words are too few if half of them are fewer than the values
+pub half-lacks : (t p w : ℕ) → ltb (w / 2) (t * p) ≡ ltb w (t * pagePlaces p)
+half-lacks t p w =
+    let twice : t * pagePlaces p ≡ 2 * (t * p) = omega arith in
+    by-cases (decLt (w / 2) (t * p))
+    (λ h. lt-ltb (w / 2) (t * p) h ∙ sym (lt-ltb w (t * pagePlaces p) (omega (arith, twice, h))))
+    (λ h. le-ltb (w / 2) (t * p) (omega (arith, h)) ∙ sym (le-ltb w (t * pagePlaces p) (omega (arith, twice, h))))

@@ -8,11 +8,12 @@ ghost use mathlib.Core.Path.{_≡_};
 ghost use lib.ListN.{length, getD};
 ghost use lib.Dec.{ltb};
 ghost use Rattle.snapshot.specs.Refusals.{firstCause};
+ghost use Rattle.snapshot.specs.Values.{pagePlaces};
 ghost use Rattle.snapshot.specs.Runs.{isCramped, runCauses};
 ghost use Rattle.admission.specs.declared.Check.the-variants.{Refused};
 ghost use Rattle.runs.specs.Plans.{planWith, planOf, reachedAt, outcomeAt};
 
-// What a run is to do: why it is refused, if it is, how many turns it gives, none if it is refused, and the words of a page.
+// What a run is to do: why it is refused, if it is, how many turns it gives, none if it is refused, and the places of a page.
 pub struct Plan {
     pub check: Check,
     pub turns: usize,
@@ -32,12 +33,12 @@ pub struct RunOutcome {
     pub check: Check,
 }
 
-// Whether the page table is too short, at so many words a turn. The product may have more than 64 bits: it is taken of the lower
+// Whether there are fewer words than so many for each turn. The product may have more than 64 bits: it is taken of the lower
 // 32 bits of the turns and of the upper ones, and compared so.
-fn lacks_words(page: u32, turns: usize, words: usize) -> bool
-    ensures { λ b. ⌜ b ≡ ltb words (turns * page) ⌝ }
+fn lacks_words(each: u32, turns: usize, words: usize) -> bool
+    ensures { λ b. ⌜ b ≡ ltb words (turns * each) ⌝ }
 {
-    let wide = page as usize;
+    let wide = each as usize;
     let low = (turns % 4294967296) * wide;
     if words < low {
         return true;
@@ -45,46 +46,58 @@ fn lacks_words(page: u32, turns: usize, words: usize) -> bool
     (words - low) >> 32 < (turns >> 32) * wide
 }
 
-// Whether the answer table or the page table is too short.
-fn is_cramped(page: u32, turns: usize, places: usize, words: usize) -> bool
-    ensures { λ b. ⌜ b ≡ isCramped page turns places words ⌝ }
+// Whether the answer table or the page table is too short. A value takes two words, so the words are too few if and only if half of
+// them, rounded down, are fewer than the values.
+fn is_cramped(values: u32, turns: usize, places: usize, words: usize) -> bool
+    ensures { λ b. ⌜ b ≡ isCramped (pagePlaces values) turns places words ⌝ }
 {
     if places < turns {
         return true;
     }
-    lacks_words(page, turns, words)
+    lacks_words(values, turns, words >> 1)
 }
 
-fn refused(k: Refusal, page: u32) -> Plan
-    ensures { λ p. ⌜ p ≡ planWith (Refused k) 0 page ⌝ }
+// A plan by which pages of so many values lie one after the other.
+fn plan_with(check: Check, turns: usize, values: u32) -> Plan
+    ensures { λ p. ⌜ p ≡ planWith check turns (pagePlaces values) ⌝ }
 {
     Plan {
-        check: Check::Refused(k),
-        turns: 0,
-        page: page as usize,
+        check,
+        turns,
+        page: 2 * (values as usize),
     }
 }
 
-// The plan of a run on a day and a table of so many records: pages have so many words, and there are so many turns, places in the
+fn refused(k: Refusal, values: u32) -> Plan
+    ensures { λ p. ⌜ p ≡ planWith (Refused k) 0 (pagePlaces values) ⌝ }
+{
+    plan_with(Check::Refused(k), 0, values)
+}
+
+// The plan of a run on a day and a table of so many records: a page shows so many values, and there are so many turns, places in the
 // answer table and words in the page table.
-pub fn planned(day: Day, size: usize, page: u32, turns: usize, places: usize, words: usize) -> Plan
-    ensures { λ p. ⌜ p ≡ planOf page turns (firstCause (runCauses (day .count) size page turns places words)) ⌝ }
+pub fn planned(
+    day: Day,
+    size: usize,
+    values: u32,
+    turns: usize,
+    places: usize,
+    words: usize,
+) -> Plan
+    ensures { λ p. ⌜ p ≡ planOf (pagePlaces values) turns
+        (firstCause (runCauses (day .count) size (pagePlaces values) turns places words)) ⌝ }
 {
     let n = day.count as usize;
     if n == 0 {
-        return refused(Refusal::OpenState, page);
+        return refused(Refusal::OpenState, values);
     }
     if size != n {
-        return refused(Refusal::LentSize, page);
+        return refused(Refusal::LentSize, values);
     }
-    if is_cramped(page, turns, places, words) {
-        return refused(Refusal::TableShort, page);
+    if is_cramped(values, turns, places, words) {
+        return refused(Refusal::TableShort, values);
     }
-    Plan {
-        check: Check::Passed,
-        turns,
-        page: page as usize,
-    }
+    plan_with(Check::Passed, turns, values)
 }
 
 // Before the first turn.

@@ -12,6 +12,8 @@ use Rattle.snapshot.specs.declared.Answer.{Answer}
 use Rattle.snapshot.specs.declared.Answer.the-variants.{Refused, Opened, Called, Read, Page, Written}
 use Rattle.snapshot.specs.declared.Refusal.{Refusal}
 use Rattle.snapshot.specs.declared.Refusal.the-variants.{CountRange, ProcessRange, Busy, Idle, DayFull, LentSize, CannotArise}
+use Rattle.snapshot.specs.declared.Value.{Value}
+use Rattle.snapshot.specs.Values.{zeroValue, stored, wordsIn, lastsIn, paired}
 use Rattle.snapshot.specs.Refusals.{numberOf, isPast}
 use Rattle.snapshot.specs.Tally.{Job, scan, update, Seen, opening, call, turn, bySeen, Call, Tally, started, instant, gains, tallied}
 use Rattle.snapshot.specs.Demand.{Method, step, IsUpdate, refusalOf, Holds}
@@ -25,10 +27,10 @@ pub record Told : Type 0 where
   pub answer : Answer
   pub page : List ℕ
 
--- what a day says after a history: its event number, and the words in its registers
+-- what a day says after a history: its event number, and the values in its registers
 pub record Left : Type 0 where
   pub event : ℕ
-  pub words : List ℕ
+  pub words : List Value
 
 -- a scan may take two turns, an update three
 abbrev most : Job → ℕ
@@ -45,13 +47,13 @@ telling seen answer =
       accept = λ s x. record { state = s; answer = answer x; page = x .page };
       sees = seen;
       pageLent = λ x. x .page;
-      Value = ℕ;
-      stored = λ e w. w;
-      shown = λ page. page;
+      Value = Value;
+      stored = stored;
+      shown = λ page. paired (wordsIn 2 page) (lastsIn 2 page);
       event = λ s. s .event;
       words = λ s. s .words;
       processes = 2;
-      pageLength = 2;
+      pageLength = 4;
       most = most;
     }
 
@@ -59,13 +61,20 @@ abbrev told : Method
 told = telling (λ x. x .seen) (λ x. x .answer)
 
 -- the tally after a history
-abbrev tallies : Tally ℕ → List Told → Tally ℕ
+abbrev tallies : Tally Value → List Told → Tally Value
 tallies t [] = t
-tallies t (x ∷ xs) = tallies (tallied (λ e w. w) t (x .seen) (x .answer)) xs
+tallies t (x ∷ xs) = tallies (tallied stored t (x .seen) (x .answer)) xs
 
--- an item whose page list has two zeros
+-- the page lists of a page of zeros, and of one with the 7 that event 4 wrote
+abbrev zeros : List ℕ
+zeros = replicate 4 0
+
+abbrev sevenBy4 : List ℕ
+sevenBy4 = 7 ∷ 0 ∷ 4 ∷ 0 ∷ []
+
+-- an item whose page list has zeros
 abbrev says : Seen → Answer → Told
-says x a = record { seen = x; answer = a; page = 0 ∷ 0 ∷ [] }
+says x a = record { seen = x; answer = a; page = zeros }
 
 abbrev callBy : ℕ → Job → Told
 callBy d j = says (call d j) Called
@@ -77,7 +86,7 @@ abbrev writeBy : (d turns : ℕ) → Told
 writeBy d turns = says (turn d) (Written turns)
 
 abbrev pageBy : (d at turns : ℕ) → List ℕ → Told
-pageBy d at turns ws = record { seen = turn d; answer = Page 0 at turns; page = ws }
+pageBy d at turns page = record { seen = turn d; answer = Page 0 at turns; page = page }
 
 -- process 1 writes 7 by event 4; process 2 calls a scan by event 3, and reads by event 5
 abbrev five : List Told
@@ -87,26 +96,33 @@ five = callBy 1 (update 1 7) ∷ readBy 1 ∷ callBy 2 scan ∷ writeBy 1 2 ∷ 
 abbrev reading : ℕ → List Told
 reading k = callBy 1 (update 1 7) ∷ replicate k (readBy 1)
 
+-- two zeros in the registers, and 7 after event 4
+abbrev untouched : List Value
+untouched = zeroValue ∷ zeroValue ∷ []
+
+abbrev seven : List Value
+seven = stored 4 7 ∷ zeroValue ∷ []
+
 -- the day after e events, the last write that of 7
 abbrev ends : ℕ → Left
-ends e = record { event = e; words = 7 ∷ 0 ∷ [] }
+ends e = record { event = e; words = seven }
 
--- the tally after the five: the words of instants 0 to 5, and the scan's call with its number and its one turn
-abbrev talliedFive : Tally ℕ
+-- the tally after the five: the values of instants 0 to 5, and the scan's call with its number and its one turn
+abbrev talliedFive : Tally Value
 talliedFive =
     record {
       event = 5;
-      words = 7 ∷ 0 ∷ [];
-      instants = replicate 4 (0 ∷ 0 ∷ []) ++ replicate 2 (7 ∷ 0 ∷ []);
+      words = seven;
+      instants = replicate 4 untouched ++ replicate 2 seven;
       calls = none ∷ some (record { job = scan; number = 3; turns = 1 }) ∷ [];
     }
 
-pub five-tallied : tallies (started 2 2 0) five ≡ talliedFive
+pub five-tallied : tallies (started 2 2 zeroValue) five ≡ talliedFive
 five-tallied = refl
 
 -- after the history ys demand 3 lets xs pass, and the day then says so
 abbrev Passes : (ys : List Told) → Left → (xs : List Told) → Type 0
-Passes ys s xs = Holds told s (tallies (started 2 2 0) ys) xs
+Passes ys s xs = Holds told s (tallies (started 2 2 zeroValue) ys) xs
 
 -- the number of a refusal, 0 for none
 abbrev numberIf : Option Refusal → ℕ
@@ -127,12 +143,12 @@ two-patient a b l m (suc zero) c q = subst Early q m
 two-patient a b l m (suc (suc i)) c q = absurd (Option·none-ne-some c q)
 
 -- the first instant after the call and the last before the answer, with as many turns as a scan may take
-pub page-in-time : Passes five (ends 6) (pageBy 2 4 2 (7 ∷ 0 ∷ []) ∷ []) × Passes five (ends 6) (pageBy 2 5 2 (7 ∷ 0 ∷ []) ∷ [])
+pub page-in-time : Passes five (ends 6) (pageBy 2 4 2 sevenBy4 ∷ []) × Passes five (ends 6) (pageBy 2 5 2 sevenBy4 ∷ [])
 unfolding step
 page-in-time = (in-time refl (omega arith) (omega arith), in-time refl (omega arith) (omega arith))
   where
-    in-time : {at : ℕ} → (7 ∷ 0 ∷ []) ≡ instant talliedFive at → 3 < at → at < 6 →
-        Passes five (ends 6) (pageBy 2 at 2 (7 ∷ 0 ∷ []) ∷ [])
+    in-time : {at : ℕ} → seven ≡ instant talliedFive at → 3 < at → at < 6 →
+        Passes five (ends 6) (pageBy 2 at 2 sevenBy4 ∷ [])
     in-time q l m = (
       refl,
       ((omega arith, omega arith), (refl, (refl, omega arith), q, l, m)),
@@ -150,7 +166,7 @@ written-in-time =
 -- ---- a page's instant and its words
 
 -- "later than its call": event 3 is the call
-pub page-at-its-call : ¬ Passes five (ends 6) (pageBy 2 3 2 (0 ∷ 0 ∷ []) ∷ [])
+pub page-at-its-call : ¬ Passes five (ends 6) (pageBy 2 3 2 zeros ∷ [])
 unfolding step
 page-at-its-call h = omega (arith, h .1 .1 .3)
 
@@ -160,19 +176,24 @@ unfolding step
 page-at-its-answer ws h = omega (arith, h .1 .1 .4)
 
 -- "exactly the n words that stood in the rows together at the page's stated instant": zeros stood until event 4
-pub page-of-an-older-instant : ¬ Passes five (ends 6) (pageBy 2 4 2 (0 ∷ 0 ∷ []) ∷ [])
+pub page-of-an-older-instant : ¬ Passes five (ends 6) (pageBy 2 4 2 zeros ∷ [])
 unfolding step
-page-of-an-older-instant h = omega (arith, ap (λ ws. getD ws 0 0) (h .1 .1 .2))
+page-of-an-older-instant h = omega (arith, ap (λ vs. getD vs 0 zeroValue .word) (h .1 .1 .2))
+
+-- "each number that of its row's last writing" (K6): 7 was written by event 4, and called by event 1
+pub page-of-another-number : ¬ Passes five (ends 6) (pageBy 2 4 2 (7 ∷ 0 ∷ 1 ∷ 0 ∷ []) ∷ [])
+unfolding step
+page-of-another-number h = omega (arith, ap (λ vs. getD vs 0 zeroValue .last) (h .1 .1 .2))
 
 -- ---- turns
 
 -- "The turns in an answer are the tally's"
-pub page-of-other-turns : ¬ Passes five (ends 6) (pageBy 2 4 1 (7 ∷ 0 ∷ []) ∷ [])
+pub page-of-other-turns : ¬ Passes five (ends 6) (pageBy 2 4 1 sevenBy4 ∷ [])
 unfolding step
 page-of-other-turns h = omega (arith, h .1 .1 .1 .0)
 
 -- one turn too many in an answer
-pub page-too-late : ¬ Passes five (ends 7) (readBy 2 ∷ pageBy 2 4 3 (7 ∷ 0 ∷ []) ∷ [])
+pub page-too-late : ¬ Passes five (ends 7) (readBy 2 ∷ pageBy 2 4 3 sevenBy4 ∷ [])
 unfolding step
 page-too-late h = omega (arith, h .4 .1 .1 .1 .1)
 
@@ -200,7 +221,7 @@ pub turn-without-a-call : ¬ Passes five (ends 6) (readBy 1 ∷ [])
 unfolding step
 turn-without-a-call h = h .1 .1
 
-pub page-without-a-call : ¬ Passes five (ends 6) (pageBy 1 4 1 (7 ∷ 0 ∷ []) ∷ [])
+pub page-without-a-call : ¬ Passes five (ends 6) (pageBy 1 4 1 sevenBy4 ∷ [])
 unfolding step
 page-without-a-call h = h .1 .1
 
@@ -208,7 +229,7 @@ pub written-without-a-call : ¬ Passes five (ends 6) (writeBy 1 1 ∷ [])
 unfolding step
 written-without-a-call h = h .1 .1
 
-pub page-of-an-update : ¬ Passes (reading 1) (ends 3) (pageBy 1 2 2 (0 ∷ 0 ∷ []) ∷ [])
+pub page-of-an-update : ¬ Passes (reading 1) (ends 3) (pageBy 1 2 2 zeros ∷ [])
 unfolding step
 page-of-an-update h = subst IsUpdate (h .1 .1 .0) tt
 
@@ -271,20 +292,20 @@ pub second-call-gets-2 : ¬ Passes five (ends 5) (says (call 2 scan) (Refused Pr
 unfolding step
 second-call-gets-2 h = omega (arith, ap numberIf (h .0))
 
--- 6: a page list of two words is long enough, one of a word is not
+-- 6: a page list of four places is long enough, one of three is not
 pub turn-gets-6 : ¬ Passes five (ends 5) (says (turn 2) (Refused LentSize) ∷ [])
 unfolding step
 turn-gets-6 h = Option·some-ne-none LentSize (h .0)
 
-pub short-list-taken : ¬ Passes five (ends 6) (record { seen = turn 2; answer = Read; page = 0 ∷ [] } ∷ [])
+pub short-list-taken : ¬ Passes five (ends 6) (record { seen = turn 2; answer = Read; page = replicate 3 0 } ∷ [])
 unfolding step
 short-list-taken h = Option·none-ne-some LentSize (h .0)
 
 -- ---- the end of the day
 
 -- the tally at event e, where process 2 has this open call
-abbrev late : ℕ → Option Call → Tally ℕ
-late e c = record { event = e; words = 7 ∷ 0 ∷ []; instants = []; calls = none ∷ c ∷ [] }
+abbrev late : ℕ → Option Call → Tally Value
+late e c = record { event = e; words = seven; instants = []; calls = none ∷ c ∷ [] }
 
 -- a scan that has had one turn, and owes one
 abbrev halfRead : Call
@@ -330,19 +351,19 @@ too-much-owed h = omega (arith, h .3)
 
 -- ---- the closing rule
 
-pub five-tallied-after : tallyAfter told (ends 5) (started 2 2 0) five ≡ talliedFive
+pub five-tallied-after : tallyAfter told (ends 5) (started 2 2 zeroValue) five ≡ talliedFive
 unfolding step
 five-tallied-after = refl
 
 -- a turn of the process itself, with a page list long enough
 pub own-turns : map (isTurnOf told 2)
-    (readBy 2 ∷ record { seen = turn 2; answer = Read; page = 0 ∷ [] } ∷ readBy 1 ∷ callBy 2 scan ∷ says opening Opened ∷ [])
+    (readBy 2 ∷ record { seen = turn 2; answer = Read; page = replicate 3 0 } ∷ readBy 1 ∷ callBy 2 scan ∷ says opening Opened ∷ [])
     ≡ true ∷ false ∷ false ∷ false ∷ false ∷ []
 own-turns = refl
 
 -- among other items, refused or answered, each of its turns reads until one is answered
 pub ends-among-others : Ends told 2 (ends 5)
-    (says (call 2 scan) (Refused Busy) ∷ writeBy 1 1 ∷ readBy 2 ∷ pageBy 2 5 2 (7 ∷ 0 ∷ []) ∷ [])
+    (says (call 2 scan) (Refused Busy) ∷ writeBy 1 1 ∷ readBy 2 ∷ pageBy 2 5 2 sevenBy4 ∷ [])
 unfolding step
 ends-among-others =
     inr ((λ q. absurd (false≢true q)), inr ((λ q. absurd (false≢true q)), inr ((λ q. refl), inl (refl, tt))))
@@ -357,13 +378,13 @@ unfolding step
 another-answered (inl h) = false≢true (h .0)
 another-answered (inr h) = h .1
 
-pub refused-before : ¬ Ends told 2 (ends 5) (says (turn 2) (Refused DayFull) ∷ pageBy 2 5 2 (7 ∷ 0 ∷ []) ∷ [])
+pub refused-before : ¬ Ends told 2 (ends 5) (says (turn 2) (Refused DayFull) ∷ pageBy 2 5 2 sevenBy4 ∷ [])
 unfolding step
 refused-before (inl h) = h .1
 refused-before (inr h) = Option·some-ne-none DayFull (ap refusalOf (h .0 refl))
 
 -- after the five process 2 owes one turn, and that turn reads
-pub not-closable : ¬ Closable told (ends 5) (started 2 2 0)
+pub not-closable : ¬ Closable told (ends 5) (started 2 2 zeroValue)
 unfolding step
 not-closable h = never-answered (h five 2 halfRead (omega arith, omega arith) refl (readBy 2 ∷ []) (omega arith))
 
@@ -378,13 +399,13 @@ refused-not-taken h = Option·some-ne-none Idle (h .1)
 abbrev mute : Method
 mute = telling (λ x. turn 2) (λ x. Read)
 
-abbrev waitsAt : ℕ → List (List ℕ) → Call → Tally ℕ
-waitsAt e is c = record { event = e; words = 7 ∷ 0 ∷ []; instants = is; calls = none ∷ some c ∷ [] }
+abbrev waitsAt : ℕ → List (List Value) → Call → Tally Value
+waitsAt e is c = record { event = e; words = seven; instants = is; calls = none ∷ some c ∷ [] }
 
-still-waits : (ys : List Told) (e : ℕ) (is : List (List ℕ)) (c : Call) → ¬ NobodyWaits mute (tallyAfter mute (ends 5) (waitsAt e is c) ys)
+still-waits : (ys : List Told) (e : ℕ) (is : List (List Value)) (c : Call) → ¬ NobodyWaits mute (tallyAfter mute (ends 5) (waitsAt e is c) ys)
 unfolding step
 still-waits [] e is c h = Option·some-ne-none c (h 2 (omega arith, omega arith))
-still-waits (y ∷ ys) e is c h = still-waits ys (suc e) (is ++ (7 ∷ 0 ∷ []) ∷ []) (gains c) h
+still-waits (y ∷ ys) e is c h = still-waits ys (suc e) (is ++ seven ∷ []) (gains c) h
 
 pub not-all-end : ¬ AllEnds mute (ends 5) (waitsAt 5 [] halfRead)
 not-all-end h = still-waits (h [] .0) 5 [] halfRead (h [] .2)
@@ -396,6 +417,10 @@ pub event-not-counted : ¬ Passes five (ends 4) []
 unfolding step
 event-not-counted h = omega (arith, h .0)
 
-pub word-not-written : ¬ Passes five (record { event = 5; words = 0 ∷ 0 ∷ [] }) []
+pub word-not-written : ¬ Passes five (record { event = 5; words = untouched }) []
 unfolding step
-word-not-written h = omega (arith, ap (λ ws. getD ws 0 0) (h .1))
+word-not-written h = omega (arith, ap (λ vs. getD vs 0 zeroValue .word) (h .1))
+
+pub number-not-kept : ¬ Passes five (record { event = 5; words = stored 0 7 ∷ zeroValue ∷ [] }) []
+unfolding step
+number-not-kept h = omega (arith, ap (λ vs. getD vs 0 zeroValue .last) (h .1))

@@ -12,6 +12,7 @@ pub mod Runs
 pub mod Booleans
 pub mod Causes
 pub mod Lists
+pub mod Values
 pub mod Marks
 pub mod Registers
 pub mod Views
@@ -25,3 +26,4 @@ pub mod Canonical
 pub mod Follows
 pub mod Booked
 pub mod SingleWriter
+pub mod LastWritings

@@ -16,6 +16,8 @@ pub record Trace : Type 1 where
   pub value : Register → Value
   pub view : Register → List Value
   pub at : Register → ℕ
+  -- the event number of its last writing
+  pub last : Register → ℕ
   -- register j at instant t, and how often it was written by then
   pub stood : (j t : ℕ) → Register
   pub writes : (j t : ℕ) → ℕ
@@ -33,15 +35,18 @@ module _ (T : Trace) (n : ℕ) where
     pub viewed : Viewed pageIn (λ t. T .at (T .stood j t)) (λ t. T .view (T .stood j t))
         (λ t. suc (T .writes j t)) (T .writes j) (T .Made j) e
     pub few : T .writes j e ≤ e
+    pub past : T .last (T .stood j e) ≤ e
 
   module _ (j : ℕ) where
-    pub history-start : T .at (T .stood j 0) ≡ 0 → T .view (T .stood j 0) ≡ pageIn 0 → T .writes j 0 ≡ 0 → History j 0
-    history-start a s c =
+    pub history-start : T .at (T .stood j 0) ≡ 0 → T .view (T .stood j 0) ≡ pageIn 0 → T .writes j 0 ≡ 0 →
+        T .last (T .stood j 0) ≡ 0 → History j 0
+    history-start a s c l =
         record {
           counted = counted-start (T .stood j) (T .writes j);
           viewed = viewed-start pageIn (λ t. T .at (T .stood j t)) (λ t. T .view (T .stood j t))
               (λ t. suc (T .writes j t)) (T .writes j) (T .Made j) a s (omega arith);
           few = omega arith;
+          past = omega arith;
         }
 
     module _ (e : ℕ) (h : History j e) where
@@ -54,18 +59,20 @@ module _ (T : Trace) (n : ℕ) where
                 (λ t. suc (T .writes j t)) (T .writes j) (T .Made j) e (h .viewed)
                 (ap (T .at) r) (ap (T .view) r) c (omega arith) later;
             few = let f = h .few in omega arith;
+            past = let f = h .past in let q = ap (T .last) r in omega arith;
           }
 
       -- it is written with a good page by an update called at c, since which it was not written
       pub history-writes : (c : ℕ) → Good pageIn c e (T .view (T .stood j (suc e))) (T .at (T .stood j (suc e))) →
           T .writes j c ≡ T .writes j e → T .writes j (suc e) ≡ suc (T .writes j e) →
-          ((u : ℕ) → u ≤ c → T .Made j u (suc e)) → History j (suc e)
-      history-writes c g own more made =
+          T .last (T .stood j (suc e)) ≡ suc e → ((u : ℕ) → u ≤ c → T .Made j u (suc e)) → History j (suc e)
+      history-writes c g own more now made =
           record {
             counted = counted-writes (T .stood j) (T .writes j) e (h .counted) (omega arith);
             viewed = viewed-writes pageIn (λ t. T .at (T .stood j t)) (λ t. T .view (T .stood j t))
                 (λ t. suc (T .writes j t)) (T .writes j) (T .Made j) e (h .viewed) c g called-late made;
             few = let f = h .few in omega arith;
+            past = omega arith;
           }
         where
           called-late : (u : ℕ) → u ≤ suc e → suc (T .writes j u) < T .writes j (suc e) → u ≤ c

@@ -119,7 +119,7 @@ module _ (M : Machine) where
   abbrev pub callCauses : State (M .Process) → ℕ → Job → List Cause
   callCauses s d j = causes s d false (lastOfCall s d j)
 
-  -- 6: "on a turn, the page list has fewer than n words"
+  -- 6: "on a turn, the page list has fewer than n words", by K6 fewer than 2n
   abbrev pub turnCauses : State (M .Process) → ℕ → List ℕ → List Cause
   turnCauses s d page = causes s d (ltb (length page) (M .pageLength (s .day .count))) (lastOfTurn s d)
 

@@ -98,7 +98,7 @@ Waiting (some c) = Unit {0}
 abbrev pub TurnsFit : (Job → ℕ) → ℕ → Call → Type 0
 TurnsFit most turns c = (turns ≡ suc (c .turns)) × (turns ≤ most (c .job))
 
--- a page closes a scan; it holds exactly the words of its stated instant, later than its call and earlier than its answer
+-- a page closes a scan; it shows exactly the values of its stated instant, later than its call and earlier than its answer
 abbrev pub PageFits : {Value : Type 0} → (Job → ℕ) → Tally Value → (at turns : ℕ) → List Value → Option Call → Type 0
 PageFits most t at turns ws none = ⊥
 PageFits most t at turns ws (some c) =
@@ -117,7 +117,7 @@ abbrev pub WrittenFits : (Job → ℕ) → ℕ → Option Call → Type 0
 WrittenFits most turns none = ⊥
 WrittenFits most turns (some c) = IsUpdate (c .job) × TurnsFit most turns c
 
--- an item's answer, with the words that its page list then shows, against the tally before it; of a refusal `expected` says all
+-- an item's answer, with the values that its page list then shows, against the tally before it; of a refusal `expected` says all
 abbrev pub Fits : {Value : Type 0} → ℕ → (Job → ℕ) → Tally Value → Seen → List Value → Answer → Type 0
 Fits n most t x ws (Refused k) = Unit {0}
 Fits n most t x ws Opened = ⊥

@@ -2,6 +2,7 @@
 pub mod Requests
 pub mod Refusals
 pub mod Lists
+pub mod Values
 pub mod Tally
 pub mod Demand
 pub mod Closing
@@ -11,4 +12,5 @@ pub mod Verdict
 pub mod Marks
 pub mod Canonical
 pub mod Book
+pub mod LastWritings
 pub mod Runs

@@ -6,7 +6,7 @@ use Rattle.snapshot.specs.declared.Answer.the-variants.{Refused, Opened,
 use Rattle.snapshot.specs.Refusals.{numberOf}
 use Rattle.snapshot.specs.Demand.{Method, step}
 
--- a refusal is its number; a page names its lender, its instant and its turns, and shows its words; a written entry says its turns
+-- a refusal is its number; a page names its lender, its instant and its turns, and shows its values; a written entry says its turns
 pub data Reply (Value : Type 0) : Type 0 where
   refused : (number : ℕ) → Reply Value
   opened : Reply Value
@@ -15,7 +15,7 @@ pub data Reply (Value : Type 0) : Type 0 where
   page : (lender at turns : ℕ) → List Value → Reply Value
   written : (turns : ℕ) → Reply Value
 
--- the paper's number and values of each case of an answer, with the words that the page list shows
+-- the paper's number and values of each case of an answer, with the values that the page list shows
 abbrev pub replyOf : {Value : Type 0} → List Value → Answer → Reply Value
 replyOf ws (Refused k) = refused (numberOf k)
 replyOf ws Opened = opened

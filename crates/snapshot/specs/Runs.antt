@@ -19,7 +19,7 @@ use Rattle.snapshot.specs.Book.{Heard, heard}
 
 -- ---- the refusals of a run
 
--- "the answer table has fewer places than turns, or the page table fewer than n words for each turn"
+-- "the answer table has fewer places than turns, or the page table fewer than n words for each turn", by K6 2n
 abbrev pub isCramped : (page turns places words : ℕ) → Bool
 isCramped page turns places words = ltb places turns || ltb words (turns * page)
 
@@ -40,8 +40,8 @@ pub record RunResult (S A : Type 0) : Type 0 where
 -- give s d ws is a turn of process d that lends page list ws, told what an answer table holds of its result, and page how many words
 -- a page has
 module _ {S A : Type 0} (give : S → (process : ℕ) → (ws : List ℕ) → Result S) (told : Result S → A) (page : ℕ) where
-  -- "each is one turn. Answers go in a lent table in order, pages in a second table at n words a turn; every other place of both
-  -- remains": the first turn takes the first place of the one and the first words of the other, and the next follows, refused or
+  -- "each is one turn. Answers go in a lent table in order, pages in a second table at n words a turn", by K6 2n; "every other place of
+  -- both remains": the first turn takes the first place of the one and the first words of the other, and the next follows, refused or
   -- not
   unfoldable pub turnsFrom : S → List ℕ → (answers : List A) → (pages : List ℕ) → RunResult S A
   turnsFrom s [] answers pages = record { state = s; refusal = none; answers = answers; pages = pages }

@@ -32,7 +32,8 @@ pub record Call : Type 0 where
   pub number : ℕ
   pub turns : ℕ
 
--- a number e, a word for each register, the words of every instant up to e, and for each process at most one open call
+-- a number e, a word for each register, the words of every instant up to e, each with the number of its last writing (K6), and for
+-- each process at most one open call
 pub record Tally (Value : Type 0) : Type 0 where
   pub event : ℕ
   pub words : List Value
@@ -57,7 +58,7 @@ callOf t d = getD (t .calls) (d - 1) none
 abbrev pub instant : {Value : Type 0} → Tally Value → ℕ → List Value
 instant t e = getD (t .instants) e []
 
--- an accepted item of process d: e grows by 1, these are the words after it, and this is d's open call
+-- an accepted item of process d: e grows by 1, these are the values after it, and this is d's open call
 abbrev pub advanced : {Value : Type 0} → Tally Value → List Value → ℕ → Option Call → Tally Value
 advanced t ws d c =
     record {

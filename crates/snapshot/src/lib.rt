@@ -9,6 +9,12 @@ pub struct Day {
     pub event: u32,
 }
 
+// What a page shows of a register: its word, and the event number of its last writing, 0 if there was none.
+pub struct Value {
+    pub word: u32,
+    pub last: u32,
+}
+
 // What is asked of a day: an opening with its count, an update call (document 01: an entry call) with its word, a scan call
 // (document 01: a page call), or a turn.
 pub enum Request {
@@ -37,7 +43,7 @@ pub enum Refusal {
     TooMany,
 }
 
-// The answer to an item. The words of a page lie in the lent page list.
+// The answer to an item. The values of a page lie in the lent page list.
 pub enum Answer {
     Refused(Refusal),
     Opened,

@@ -5,6 +5,7 @@ use mathlib.Core.Path.{_≡_, refl, sym, subst}
 use mathlib.Core.List.{List, [], _∷_}
 use mathlib.Core.Option.{none}
 use lib.ListN.{replicate}
+use Rattle.snapshot.specs.Values.{zeroValue, stored}
 use Rattle.snapshot.specs.Lists.{All}
 use Rattle.snapshot.specs.Tally.{started}
 use Rattle.snapshot.specs.Demand.{step}
@@ -19,12 +20,12 @@ use Rattle.unbounded.specs.Days.{method, openedFor}
 use Rattle.unbounded.proofs.Demand3.{demand3}
 
 pub items-booked : (n : ℕ) → 0 < n → n ≤ 8 → (items : List Item) → let hs = heard (method ascending n) (openedFor n) items in
-    IsBooked n (λ w. w) (started n n 0) (tallyAfter (λ e w. w) (started n n 0) hs)
-    (finished (λ e w. w) (λ w. w) (started n n 0) hs) (said (λ e w. w) (λ w. w) (started n n 0) hs)
-items-booked n z eight items = holds-booked (method ascending n) (λ w. w) (λ e w. refl) (openedFor n) n 0 items (demand3 n z eight items)
+    IsBooked n (λ v. v .word) (started n n zeroValue) (tallyAfter stored (started n n zeroValue) hs)
+    (finished stored (λ v. v .word) (started n n zeroValue) hs) (said stored (λ v. v .word) (started n n zeroValue) hs)
+items-booked n z eight items = holds-booked (method ascending n) (λ v. v .word) (λ e w. refl) (openedFor n) n zeroValue items (demand3 n z eight items)
 
-pub items-begin : (n : ℕ) → memoryOf (λ w. w) (started n n 0) ≡ record { Mem = replicate n 0; H = λ i. none }
-items-begin n = started-memory n n 0 (λ w. w)
+pub items-begin : (n : ℕ) → memoryOf (λ v. v .word) (started n n zeroValue) ≡ record { Mem = replicate n 0; H = λ i. none }
+items-begin n = started-memory n n zeroValue (λ v. v .word)
 
 own-seen : (n : ℕ) (s : State Process) (items : List Item) → All (λ h. OwnSeen (h .seen)) (heard (method ascending n) s items)
 own-seen n s [] = tt
@@ -34,7 +35,7 @@ pub items-single-writer : (n : ℕ) (z : 0 < n) (eight : n ≤ 8) (items : List 
     All (λ a. OwnAddress (a .1)) (items-booked n z eight items .serial .actions)
 items-single-writer n z eight items =
     let run = items-booked n z eight items .serial in
-    run-own (run .actions) (memoryOf (λ w. w) (started n n 0)) _ (run .run)
+    run-own (run .actions) (memoryOf (λ v. v .word) (started n n zeroValue)) _ (run .run)
     (subst (λ s. (j : ℕ) → OwnHeld (s .H j)) (sym (items-begin n)) (λ j. tt))
     (subst (All (λ a. OwnAddress (a .1))) (sym (run .outside))
-    (said-own (λ e w. w) (λ w. w) (started n n 0) (heard (method ascending n) (openedFor n) items) (own-seen n (openedFor n) items)))
+    (said-own stored (λ v. v .word) (started n n zeroValue) (heard (method ascending n) (openedFor n) items) (own-seen n (openedFor n) items)))

@@ -8,12 +8,15 @@ use mathlib.Core.List.{List}
 use mathlib.Core.Option.{Option, none, some}
 use lib.ListN.{length, take}
 use Rattle.snapshot.specs.Lists.{over}
+use Rattle.snapshot.specs.declared.Value.{Value}
+use Rattle.snapshot.specs.Values.{stored, pagePlaces, valuesIn}
 use Rattle.snapshot.specs.Marks.{Found}
 use Rattle.snapshot.specs.Tally.{Job, scan, update, Call, opens}
 use Rattle.snapshot.specs.Demand.{Result}
 use Rattle.snapshot.specs.Days.{State, readFrom}
 use Rattle.snapshot.specs.declared.Answer.the-variants.{Written}
 use Rattle.snapshot.proofs.Lists.{length-each, take-over-all}
+use Rattle.snapshot.proofs.Values.{values-laid}
 use Rattle.snapshot.proofs.Views.{Good, good-later}
 use Rattle.snapshot.proofs.Works.{Owns, Updates, processAt, pageAt, turnAt, Event, TurnDeed, turn-reads, turn-pages, turn-writes}
 use Rattle.unbounded.specs.declared.Register.{Register}
@@ -40,7 +43,7 @@ module _ (n : ℕ) (o : Order) (H : ℕ → State Process) (z : 0 < n) (eight : 
   abbrev registers : ℕ → ℕ → Register
   registers = registerAt n o H
 
-  abbrev pages : ℕ → List ℕ
+  abbrev pages : ℕ → List Value
   pages = pageAt (figure3 o) n H
 
   -- ---- a call only sets the task
@@ -68,11 +71,11 @@ module _ (n : ℕ) (o : Order) (H : ℕ → State Process) (z : 0 < n) (eight : 
 
   -- ---- turns
 
-  -- a register's view, and a good page, have n words
+  -- a register's view, and a good page, have n values
   view-full : (j : ℕ) → j < n → length (take n (processAt (figure3 o) H j e .register .view)) ≡ n
   view-full j b = ap length (L j b .viewed .true e (omega arith)) ∙ length-each n (λ k. value (registers k (registers j e .at)))
 
-  good-full : {s at : ℕ} {ws : List ℕ} → Good pages s e ws at → length ws ≡ n
+  good-full : {s at : ℕ} {ws : List Value} → Good pages s e ws at → length ws ≡ n
   good-full {at = at} g = ap length (g .true) ∙ length-each n (λ k. value (registers k at))
 
   -- the register that is read at a position of a double collect
@@ -91,11 +94,11 @@ module _ (n : ℕ) (o : Order) (H : ℕ → State Process) (z : 0 < n) (eight : 
       abbrev read-now : Register
       read-now = read-at (position n t)
 
-      abbrev finds : Option (Found ℕ)
+      abbrev finds : Option (Found Value)
       finds = foundBy o n (suc e) (position n t) read-now before
 
       -- what a read of register r at position pos leaves, if it finds no page
-      abbrev ScannedAt : (pos : ℕ) → Register → Option (Found ℕ) → Type 0
+      abbrev ScannedAt : (pos : ℕ) → Register → Option (Found Value) → Type 0
       ScannedAt pos r =
           let a = firstAfter n pos r (before .first) in
           let b = secondAfter n pos r (before .second) in
@@ -115,15 +118,15 @@ module _ (n : ℕ) (o : Order) (H : ℕ → State Process) (z : 0 < n) (eight : 
 
       -- a scan's reading turn
       module _ (page : List ℕ) (job : c .job ≡ scan) (count : c .turns ≡ t) where
-        abbrev scan-result : Option (Found ℕ) → Result Process
+        abbrev scan-result : Option (Found Value) → Result Process
         scan-result f = scanTurn o n (suc e) read-now page before t f
 
-        scan-register : (f : Option (Found ℕ)) → scan-result f .state .register ≡ before .register
+        scan-register : (f : Option (Found Value)) → scan-result f .state .register ≡ before .register
         unfolding begin afterRead
         scan-register none = refl
         scan-register (some f) = refl
 
-        scan-found : (f : Option (Found ℕ)) → ScannedAt (position n t) read-now f → Worked (scan-result f)
+        scan-found : (f : Option (Found Value)) → ScannedAt (position n t) read-now f → Worked (scan-result f)
         unfolding begin afterRead
         scan-found none s E = (
           laws-stay n o H e i (scan-result none .state) L E refl,
@@ -137,7 +140,7 @@ module _ (n : ℕ) (o : Order) (H : ℕ → State Process) (z : 0 < n) (eight : 
           laws-stay n o H e i (begin n Idle before) L E refl,
           turn-pages (f .lender) (f .instant) (t + 1) job (add-one t ∙ ap suc (sym count))
               (subst (λ ws. Good pages (c .number) e ws (f .instant))
-              (sym (take-over-all n (f .words) page (good-full good))) good)
+              (sym (values-laid n (f .words) page (good-full good))) good)
               refl (record { sized = sized-begin n Idle before eight (T .sized); tie = tt }),
         )
 
@@ -147,15 +150,15 @@ module _ (n : ℕ) (o : Order) (H : ℕ → State Process) (z : 0 < n) (eight : 
 
       -- an update's reading turn
       module _ (page : List ℕ) (w : ℕ) (job : Updates i w (c .job)) (count : c .turns ≡ t) where
-        abbrev update-result : Option (Found ℕ) → Result Process
+        abbrev update-result : Option (Found Value) → Result Process
         update-result f = updateTurn o n (suc e) read-now page before w t f
 
-        update-register : (f : Option (Found ℕ)) → update-result f .state .register ≡ before .register
+        update-register : (f : Option (Found Value)) → update-result f .state .register ≡ before .register
         unfolding afterRead
         update-register none = refl
         update-register (some f) = refl
 
-        update-found : (f : Option (Found ℕ)) → ScannedAt (position n t) read-now f → Worked (update-result f)
+        update-found : (f : Option (Found Value)) → ScannedAt (position n t) read-now f → Worked (update-result f)
         unfolding afterRead
         update-found none s E = (
           laws-stay n o H e i (update-result none .state) L E refl,
@@ -194,13 +197,13 @@ module _ (n : ℕ) (o : Order) (H : ℕ → State Process) (z : 0 < n) (eight : 
     module _ (page : List ℕ) (w at t : ℕ) (job : Updates i w (c .job)) (count : c .turns ≡ t)
         (K : Keeps n o H e i (c .number) t before at) where
       abbrev after-write : Process
-      after-write = emptied n (written n w at before) Idle before
+      after-write = emptied n (written n (suc e) w at before) Idle before
 
       wrote : trimmed n (after-write .register)
-          ≡ record { word = w; seq = registers i e .seq + 1; view = take n (before .view); at = at }
+          ≡ record { value = stored (suc e) w; seq = registers i e .seq + 1; view = take n (before .view); at = at }
       unfolding written
       wrote =
-          trimmed-laid n (record { word = w; seq = before .register .seq + 1; view = before .view; at = at }) (before .register)
+          trimmed-laid n (record { value = stored (suc e) w; seq = before .register .seq + 1; view = before .view; at = at }) (before .register)
           (good-full (K .good))
 
       write-works : Worked (record { state = after-write; answer = Written (t + 1); page = page })
@@ -208,7 +211,7 @@ module _ (n : ℕ) (o : Order) (H : ℕ → State Process) (z : 0 < n) (eight : 
         laws-write n o H e i after-write L E (c .number) w at (take n (before .view)) (K .good) (K .own) wrote,
         turn-writes w (t + 1) job (add-one t ∙ ap suc (sym count)) (ap value wrote)
             (record {
-              sized = sized-emptied n (written n w at before) Idle before eight (T .sized);
+              sized = sized-emptied n (written n (suc e) w at before) Idle before eight (T .sized);
               tie = tt;
             }),
       )

@@ -7,6 +7,7 @@ use mathlib.Core.List.{List}
 use mathlib.Core.Option.{Option, none, some}
 use lib.ListN.{take}
 use borrow.Author.Tests.{le-ltb, lt-leb}
+use Rattle.snapshot.specs.Values.{zeroValue}
 use Rattle.snapshot.specs.Tally.{Call, started, isOpen, callOwes}
 use Rattle.snapshot.specs.Demand.{Holds, step}
 use Rattle.snapshot.specs.Days as Days
@@ -76,14 +77,15 @@ module _ (n : ℕ) (o : Order) (H : ℕ → State Process) where
     sound c T =
         let p = processAt (figure3 o) H i e in
         ap₂ _||_ (le-ltb e (p .register .seq) (L i b .few))
-        (ap₂ _||_ (le-ltb e (p .register .at) (L i b .viewed .past e (omega arith))) (not-overdue p (p .task) c (T .tie)))
+        (ap₂ _||_ (le-ltb e (p .register .at) (L i b .viewed .past e (omega arith)))
+        (ap₂ _||_ (le-ltb e (p .register .value .last) (L i b .past)) (not-overdue p (p .task) c (T .tie))))
 
   first-laws : n ≤ 8 → ((i : ℕ) → i < n → processAt (figure3 o) H i 0 ≡ zeroProcess) → Laws n o H 0
   first-laws eight first j b =
       history-start (trace (registerAt n o H)) n j (ap (λ p. p .register .at) (first j b))
-      (ap (λ p. take n (p .register .view)) (first j b) ∙ take-replicate n 8 0 eight
-      ∙ sym (each-replicate n (λ i. value (registerAt n o H i 0)) 0 (λ i l. ap (λ p. value (p .register)) (first i l))))
-      (ap (λ p. p .register .seq) (first j b))
+      (ap (λ p. take n (p .register .view)) (first j b) ∙ take-replicate n 8 zeroValue eight
+      ∙ sym (each-replicate n (λ i. value (registerAt n o H i 0)) zeroValue (λ i l. ap (λ p. value (p .register)) (first i l))))
+      (ap (λ p. p .register .seq) (first j b)) (ap (λ p. p .register .value .last) (first j b))
 
   -- what Figure 3 owes, and pays
   works : Permutes n o → 0 < n → n ≤ 8 → Works (figure3 o) n H
@@ -107,7 +109,7 @@ module _ (n : ℕ) (o : Order) (H : ℕ → State Process) where
 
 -- demand 3, for every order of reading
 pub demand3-ordered : (n : ℕ) (o : Order) → Permutes n o → 0 < n → n ≤ 8 → (items : List Item) →
-    Holds (method o n) (openedFor n) (started n n 0) items
+    Holds (method o n) (openedFor n) (started n n zeroValue) items
 unfolding Days.openedFor
 demand3-ordered n o P z eight items = machine.demand3 (figure3 o) n (λ H. works n o H P z eight) z eight items
 
@@ -121,7 +123,7 @@ ascending-permutes n =
     }
 
 -- demand 3: a day just opened for any n from 1 to 8, and every list of items on it
-pub demand3 : (n : ℕ) → 0 < n → n ≤ 8 → (items : List Item) → Holds (method ascending n) (openedFor n) (started n n 0) items
+pub demand3 : (n : ℕ) → 0 < n → n ≤ 8 → (items : List Item) → Holds (method ascending n) (openedFor n) (started n n zeroValue) items
 demand3 n z eight items = demand3-ordered n ascending (ascending-permutes n) z eight items
 
 -- what an accepted opening leaves, whatever the day and the table held, is the day just opened for its count, from 1 to 8
@@ -132,7 +134,7 @@ opening-opens o s k q = machine.opening-opens (figure3 o) s k q
 
 -- demand 3 after any accepted opening: whatever the day and the table held before it
 pub demand3-after-opening : (s : State Process) (n : ℕ) → refusal (figure3 ascending) s (openFor n) ≡ none → (items : List Item) →
-    Holds (method ascending n) (step (method ascending n) s (openFor n) .state) (started n n 0) items
+    Holds (method ascending n) (step (method ascending n) s (openFor n) .state) (started n n zeroValue) items
 demand3-after-opening s n q items =
     machine.demand3-after-opening (figure3 ascending) s n
     (λ z eight H. works n ascending H (ascending-permutes n) z eight) q items

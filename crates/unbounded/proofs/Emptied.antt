@@ -8,6 +8,8 @@ use mathlib.Core.List.{List, map}
 use mathlib.Core.Option.{Option, none, some}
 use lib.ListN.{length, getD, take, replicate, length-map, getD-replicate}
 use lib.Seq.{getD-set-same, length-take-le}
+use Rattle.snapshot.specs.declared.Value.{Value}
+use Rattle.snapshot.specs.Values.{zeroValue}
 use Rattle.snapshot.specs.Lists.{over}
 use Rattle.snapshot.specs.Marks.{noneMoved, Found}
 use Rattle.snapshot.specs.Tally.{Job, scan, update}
@@ -39,14 +41,14 @@ keptAt (Scan t) = 0
 keptAt (Update w t) = 0
 keptAt (Ready w at t) = at
 
--- nothing is collected, on a day for n processes: all is 0 in the first n places of both collects, with n words of each view, the
+-- nothing is collected, on a day for n processes: all is 0 in the first n places of both collects, with n values of each view, the
 -- turn that ended the first, the marks, and the kept view with its instant
 pub record NothingCollected (n : ℕ) (p : Process) : Type 0 where
   pub firsts : (i : ℕ) → i < n → trimmed n (getD (p .first) i noRegister) ≡ trimmed n zeroRegister
   pub seconds : (i : ℕ) → i < n → trimmed n (getD (p .second) i noRegister) ≡ trimmed n zeroRegister
   pub end : p .«first_end» ≡ 0
   pub marks : p .moved ≡ noneMoved
-  pub view : take n (p .view) ≡ replicate n 0
+  pub view : take n (p .view) ≡ replicate n zeroValue
   pub at : keptAt (p .task) ≡ 0
 
 -- ---- records
@@ -62,7 +64,7 @@ module _ (n : ℕ) (eight : n ≤ 8) where
       ap (trimmed n)
       (getD-over n zeros rs i noRegister full b
       ∙ getD-map-below (laid n zeroRegister) rs i noRegister noRegister (omega arith))
-      ∙ trimmed-laid n zeroRegister (getD rs i noRegister) (length-take-le n (replicate 8 0) (omega arith))
+      ∙ trimmed-laid n zeroRegister (getD rs i noRegister) (length-take-le n (replicate 8 zeroValue) (omega arith))
 
   emptied-nothing : (r : Register) (k : Task) (p : Process) → keptAt k ≡ 0 → Sized p → NothingCollected n (emptied n r k p)
   emptied-nothing r k p q S =
@@ -71,8 +73,8 @@ module _ (n : ℕ) (eight : n ≤ 8) where
         seconds = cleared-zero (p .second) (S .seconds);
         end = refl;
         marks = refl;
-        view = take-over n (replicate 8 0) (p .view) (length-take-le n (replicate 8 0) (omega arith))
-            ∙ take-replicate n 8 0 eight;
+        view = take-over n (replicate 8 zeroValue) (p .view) (length-take-le n (replicate 8 zeroValue) (omega arith))
+            ∙ take-replicate n 8 zeroValue eight;
         at = q;
       }
 
@@ -93,7 +95,7 @@ module _ (n : ℕ) (eight : n ≤ 8) where
         seconds = zeros;
         end = refl;
         marks = refl;
-        view = take-replicate n 8 0 eight;
+        view = take-replicate n 8 zeroValue eight;
         at = refl;
       }
 
@@ -113,12 +115,12 @@ module _ (o : Order) (n now : ℕ) (r : Register) (page : List ℕ) (p : Process
   unfolding turned
   turned-nothing = go (p .task)
     where
-      scans : (t : ℕ) (f : Option (Found ℕ)) → Empties (scanTurn o n now r page p t f .answer) →
+      scans : (t : ℕ) (f : Option (Found Value)) → Empties (scanTurn o n now r page p t f .answer) →
           NothingCollected n (scanTurn o n now r page p t f .state)
       scans t none h = absurd h
       scans t (some f) h = begin-nothing n eight Idle p refl S
 
-      updates : (w t : ℕ) (f : Option (Found ℕ)) → Empties (updateTurn o n now r page p w t f .answer) →
+      updates : (w t : ℕ) (f : Option (Found Value)) → Empties (updateTurn o n now r page p w t f .answer) →
           NothingCollected n (updateTurn o n now r page p w t f .state)
       updates w t none h = absurd h
       updates w t (some f) h = absurd h
@@ -127,7 +129,7 @@ module _ (o : Order) (n now : ℕ) (r : Register) (page : List ℕ) (p : Process
       go Idle h = absurd h
       go (Scan t) h = scans t (foundBy o n now (position n t) r p) h
       go (Update w t) h = updates w t (foundBy o n now (position n t) r p) h
-      go (Ready w at t) h = emptied-nothing n eight (written n w at p) Idle p refl S
+      go (Ready w at t) h = emptied-nothing n eight (written n now w at p) Idle p refl S
 
   -- a turn that leaves its process idle ends a task
   turned-idle : isIdle (p .task) ≡ false → isIdle (turned o n now r page p .state .task) ≡ true →
@@ -135,12 +137,12 @@ module _ (o : Order) (n now : ℕ) (r : Register) (page : List ℕ) (p : Process
   unfolding turned afterRead
   turned-idle = go (p .task)
     where
-      scans : (t : ℕ) (f : Option (Found ℕ)) → isIdle (scanTurn o n now r page p t f .state .task) ≡ true →
+      scans : (t : ℕ) (f : Option (Found Value)) → isIdle (scanTurn o n now r page p t f .state .task) ≡ true →
           Empties (scanTurn o n now r page p t f .answer)
       scans t none h = absurd (false≢true h)
       scans t (some f) h = tt
 
-      updates : (w t : ℕ) (f : Option (Found ℕ)) → isIdle (updateTurn o n now r page p w t f .state .task) ≡ true →
+      updates : (w t : ℕ) (f : Option (Found Value)) → isIdle (updateTurn o n now r page p w t f .state .task) ≡ true →
           Empties (updateTurn o n now r page p w t f .answer)
       updates w t none h = absurd (false≢true h)
       updates w t (some f) h = absurd (false≢true h)
@@ -156,11 +158,11 @@ module _ (o : Order) (n now : ℕ) (r : Register) (page : List ℕ) (p : Process
   unfolding turned
   turned-sized = go (p .task)
     where
-      scans : (t : ℕ) (f : Option (Found ℕ)) → Sized (scanTurn o n now r page p t f .state)
+      scans : (t : ℕ) (f : Option (Found Value)) → Sized (scanTurn o n now r page p t f .state)
       scans t none = sized-read o n now (position n t) r p (Scan (t + 1)) (p .view) S
       scans t (some f) = sized-begin n Idle p eight S
 
-      updates : (w t : ℕ) (f : Option (Found ℕ)) → Sized (updateTurn o n now r page p w t f .state)
+      updates : (w t : ℕ) (f : Option (Found Value)) → Sized (updateTurn o n now r page p w t f .state)
       updates w t none = sized-read o n now (position n t) r p (Update w (t + 1)) (p .view) S
       updates w t (some f) =
           sized-read o n now (position n t) r p (Ready w (f .instant) (t + 1)) (over n (f .words) (p .view)) S
@@ -169,7 +171,7 @@ module _ (o : Order) (n now : ℕ) (r : Register) (page : List ℕ) (p : Process
       go Idle = S
       go (Scan t) = scans t (foundBy o n now (position n t) r p)
       go (Update w t) = updates w t (foundBy o n now (position n t) r p)
-      go (Ready w at t) = sized-emptied n (written n w at p) Idle p eight S
+      go (Ready w at t) = sized-emptied n (written n now w at p) Idle p eight S
 
 -- ---- days
 

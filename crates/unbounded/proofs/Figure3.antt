@@ -14,6 +14,8 @@ use lib.ListN.{length, getD, take, replicate, length-map, length-replicate}
 use lib.Seq.{length-take-le}
 use lib.Dec.{eqb}
 use borrow.Author.Tests.{eq-eqb, ne-eqb}
+use Rattle.snapshot.specs.declared.Value.{Value}
+use Rattle.snapshot.specs.Values.{zeroValue, stored}
 use Rattle.snapshot.specs.Lists.{over, each, everyFrom}
 use Rattle.snapshot.specs.Tally.{Job, scan, update}
 use Rattle.snapshot.specs.Marks.{isMoved, withMoved, lends, markFrom, passed, Found}
@@ -56,8 +58,8 @@ module _ (o : Order) (n : ℕ) where
       After o n (Does (next now (trimmed n r)) (suc t)) (suc t) p page (turned o n now r page p) (next now (trimmed n r)))
   Does (write v w) t p =
       Standing o n (write v w) t p
-      × ((now : ℕ) (r : Register) (page : List ℕ) → Wrote o n w (suc t) p page (turned o n now r page p))
-  Does (return from at words) t p = Unit {0}
+      × ((now : ℕ) (r : Register) (page : List ℕ) → Wrote o n (w now) (suc t) p page (turned o n now r page p))
+  Does (return from at values) t p = Unit {0}
   Does spent t p = Unit {0}
 
 -- ---- arrays
@@ -87,7 +89,7 @@ module _ (n : ℕ) (o : Order) (P : Permutes n o) where
       ∙ h j b
       ∙ sym (ap (trimmed n) (read-into-other n r p rs (o .place j) (λ w. q (sym (P .register-place j b) ∙ ap (o .register) w)))))
 
-  -- line 5: the words of the second collect
+  -- line 5: the values of the second collect
   page-each : (x : Array Register) (rs : List Register) → Stands x rs → each n (λ j. value (x j)) ≡ pageOf o n rs
   unfolding pageOf
   page-each x rs h = each-cong n (λ j. value (x j)) (λ j. value (collectedAt o rs j)) (λ j l. ap value (h j l))
@@ -96,7 +98,7 @@ module _ (n : ℕ) (o : Order) (P : Permutes n o) where
 
 module _ (n : ℕ) (o : Order) (a b : List Register) (x y : Array Register)
     (hx : (j : ℕ) → j < n → x j ≡ trimmed n (collectedAt o a j)) (hy : (j : ℕ) → j < n → y j ≡ trimmed n (collectedAt o b j))
-    (finish : Array ℕ → ℕ → ℕ → List ℕ → Procedure) (go : Array ℕ → Procedure) where
+    (finish : Array ℕ → ℕ → ℕ → List Value → Procedure) (go : Array ℕ → Procedure) where
   -- the figure's test of line 7 is `differs`
   same-seq : (j : ℕ) → j < n → differs o a b j ≡ false → eqb (x j .seq) (y j .seq) ≡ true
   same-seq j l d =
@@ -257,13 +259,14 @@ reads-of : (o : Order) (n : ℕ) (K : Job) (t pos place : ℕ) → position n t 
 reads-of o n scan t pos place q r = ap {B = Option ℕ} (λ k. some (o .register k)) (ap (placeAt n) q ∙ r)
 reads-of o n (update register w) t pos place q r = ap {B = Option ℕ} (λ k. some (o .register k)) (ap (placeAt n) q ∙ r)
 
--- what the procedure does with the words that its scan returns, by a process whose register's seq is s
-abbrev finishOf : Job → ℕ → Variables → ℕ → ℕ → List ℕ → Procedure
-finishOf scan s v from at words = return from at words
-finishOf (update register w) s v from at words = write v (record { word = w; seq = s + 1; view = words; at = at })
+-- what the procedure does with the values that its scan returns, by a process whose register's seq is s
+abbrev finishOf : Job → ℕ → Variables → ℕ → ℕ → List Value → Procedure
+finishOf scan s v from at values = return from at values
+finishOf (update register w) s v from at values =
+    write v (λ now. record { value = stored now w; seq = s + 1; view = values; at = at })
 
 module _ (n : ℕ) (o : Order) (now : ℕ) (r : Register) (pg : List ℕ) (p : Process) where
-  abbrev readTurn : ℕ → Option (Found ℕ) → Job → Result Process
+  abbrev readTurn : ℕ → Option (Found Value) → Job → Result Process
   readTurn t f scan = scanTurn o n now r pg p t f
   readTurn t f (update register w) = updateTurn o n now r pg p w t f
 
@@ -271,7 +274,7 @@ module _ (n : ℕ) (o : Order) (now : ℕ) (r : Register) (pg : List ℕ) (p : P
   turned-by t scan = refl
   turned-by t (update register w) = refl
 
-  turned-reads : (K : Job) (t pos : ℕ) (f : Option (Found ℕ)) → p .task ≡ taskOf K t → position n t ≡ pos →
+  turned-reads : (K : Job) (t pos : ℕ) (f : Option (Found Value)) → p .task ≡ taskOf K t → position n t ≡ pos →
       foundBy o n now pos r p ≡ f →
       turned o n now r pg p ≡ readTurn t f K
   unfolding turned
@@ -292,18 +295,18 @@ module _ (n : ℕ) (o : Order) (now : ℕ) (r : Register) (pg : List ℕ) (p : P
 
 -- ---- a turn that finds a page
 
--- a page of n words kept as a view, and written
-trimmed-written : (n w at s : ℕ) (p : Process) (ws : List ℕ) → p .register .seq ≡ s → take n (p .view) ≡ ws → length ws ≡ n →
-    trimmed n (written n w at p) ≡ record { word = w; seq = s + 1; view = ws; at = at }
+-- a page of n values kept as a view, and written
+trimmed-written : (n now w at s : ℕ) (p : Process) (ws : List Value) → p .register .seq ≡ s → take n (p .view) ≡ ws → length ws ≡ n →
+    trimmed n (written n now w at p) ≡ record { value = stored now w; seq = s + 1; view = ws; at = at }
 unfolding written
-trimmed-written n w at s p ws q v l =
-    trimmed-laid n (record { word = w; seq = p .register .seq + 1; view = p .view; at = at }) (p .register) (ap length v ∙ l)
-    ∙ ap₂ (λ k u. record { word = w; seq = k + 1; view = u; at = at }) q v
+trimmed-written n now w at s p ws q v l =
+    trimmed-laid n (record { value = stored now w; seq = p .register .seq + 1; view = p .view; at = at }) (p .register) (ap length v ∙ l)
+    ∙ ap₂ (λ k u. record { value = stored now w; seq = k + 1; view = u; at = at }) q v
 
-module _ (n : ℕ) (o : Order) (now : ℕ) (r : Register) (pg : List ℕ) (p : Process) (t s : ℕ) (f : Found ℕ)
+module _ (n : ℕ) (o : Order) (now : ℕ) (r : Register) (pg : List ℕ) (p : Process) (t s : ℕ) (f : Found Value)
     (own : p .register .seq ≡ s)
     (full : length (f .words) ≡ n) (v : Variables)
-    (has : (k : Task) (u : List ℕ) → Remembers o n v (afterRead o n now (position n t) r p k u)) where
+    (has : (k : Task) (u : List Value) → Remembers o n v (afterRead o n now (position n t) r p k u)) where
   -- the procedure returns to its caller, or goes on to its write
   found-after : (K : Job) → let q = finishOf K s v (f .lender) (f .instant) (f .words) in
       After o n (Does o n q (suc t)) (suc t) p pg (readTurn n o now r pg p t (some f) K) q
@@ -318,7 +321,7 @@ module _ (n : ℕ) (o : Order) (now : ℕ) (r : Register) (pg : List ℕ) (p : P
       (λ now′ r′ pg′. (
         ap Written (ap (λ k. k + 1) (add-one t) ∙ add-one (suc t)),
         refl,
-        trimmed-written n w (f .instant) s (afterRead o n now (position n t) r p (Ready w (f .instant) (t + 1))
+        trimmed-written n now′ w (f .instant) s (afterRead o n now (position n t) r p (Ready w (f .instant) (t + 1))
             (over n (f .words) (p .view)))
             (f .words) own (take-over-all n (f .words) (p .view) full) full,
         refl,
@@ -328,13 +331,13 @@ module _ (n : ℕ) (o : Order) (now : ℕ) (r : Register) (pg : List ℕ) (p : P
 
 -- ---- a turn that goes on
 
-register-kept : (o : Order) (n now pos : ℕ) (r : Register) (p : Process) (k : Task) (v : List ℕ) →
+register-kept : (o : Order) (n now pos : ℕ) (r : Register) (p : Process) (k : Task) (v : List Value) →
     afterRead o n now pos r p k v .register ≡ p .register
 unfolding afterRead
 register-kept o n now pos r p k v = refl
 
 -- what is left of the rounds is a read, or nothing
-after-while : (o : Order) (n : ℕ) → 0 < n → (F : Variables → ℕ → ℕ → List ℕ → Procedure) (k : ℕ) (moved : Array ℕ)
+after-while : (o : Order) (n : ℕ) → 0 < n → (F : Variables → ℕ → ℕ → List Value → Procedure) (k : ℕ) (moved : Array ℕ)
     (x y : Array Register) (e t : ℕ) (p : Process) (pg : List ℕ)
     (p′ : Process) → p′ .register ≡ p .register → Does o n (whileTrue o n F k moved x y e) t p′ →
     After o n (Does o n (whileTrue o n F k moved x y e) t) t p pg (record { state = p′; answer = Read; page = pg })
@@ -361,7 +364,7 @@ module _ (n : ℕ) (o : Order) (P : Permutes n o) (z : 0 < n) (eight : n ≤ 8) 
   record At (p : Process) (t : ℕ) (v : Variables) : Type 0 where
     sized : Sized p
     remembers : Remembers o n v p
-    -- the views in the second collect have their n words
+    -- the views in the second collect have their n values
     wide : (j : ℕ) → j < n → length (v .b j .view) ≡ n
     task : p .task ≡ taskOf K t
     seq : p .register .seq ≡ s
@@ -493,7 +496,7 @@ module _ (n : ℕ) (o : Order) (P : Permutes n o) (z : 0 < n) (eight : n ≤ 8) 
       -- the marks that the search left, by its verdict, are what the record then has
       remembers-after : (m′ : Array ℕ) (v : Verdict) → verdict n (differs o a′ c′) (lends (differs o a′ c′) (p .moved)) ≡ v →
           ((i : ℕ) → i < n → m′ i ≡ mark (isMoved (markFrom (differs o a′ c′) (passed n (some v)) 0 (p .moved)) i)) →
-          (k : Task) (u : List ℕ) → Remembers o n (vars m′ x y′ e) (afterRead o n now (n + q) r p k u)
+          (k : Task) (u : List Value) → Remembers o n (vars m′ x y′ e) (afterRead o n now (n + q) r p k u)
       unfolding afterRead marksAfter a′ c′ y′
       remembers-after m′ v is h k u =
           record {
@@ -506,8 +509,8 @@ module _ (n : ℕ) (o : Order) (P : Permutes n o) (z : 0 < n) (eight : n ≤ 8) 
           }
 
       -- a page was found, and the procedure finishes with it
-      finishes : (k : ℕ) (f : Found ℕ) (m′ : Array ℕ) → foundBy o n now (n + q) r p ≡ some f → length (f .words) ≡ n →
-          ((k : Task) (u : List ℕ) → Remembers o n (vars m′ x y′ e) (afterRead o n now (n + q) r p k u)) →
+      finishes : (k : ℕ) (f : Found Value) (m′ : Array ℕ) → foundBy o n now (n + q) r p ≡ some f → length (f .words) ≡ n →
+          ((k : Task) (u : List Value) → Remembers o n (vars m′ x y′ e) (afterRead o n now (n + q) r p k u)) →
           lines k ≡ finishOf K s (vars m′ x y′ e) (f .lender) (f .instant) (f .words) → Ending k
       unfolding Ending
       finishes k f m′ found-f wide-f has same =
@@ -535,7 +538,7 @@ module _ (n : ℕ) (o : Order) (P : Permutes n o) (z : 0 < n) (eight : n ≤ 8) 
           (register-kept o n now (n + q) r p (taskOf K (t + 1)) (p .view)) does))
 
       -- the record after a double collect without a page
-      at-again : (m′ : Array ℕ) → ((k : Task) (u : List ℕ) → Remembers o n (vars m′ x y′ e) (afterRead o n now (n + q) r p k u)) →
+      at-again : (m′ : Array ℕ) → ((k : Task) (u : List Value) → Remembers o n (vars m′ x y′ e) (afterRead o n now (n + q) r p k u)) →
           At (afterRead o n now (n + q) r p (taskOf K (t + 1)) (p .view)) (suc t) (vars m′ x y′ e)
       unfolding afterRead y′
       at-again m′ has =
@@ -551,7 +554,7 @@ module _ (n : ℕ) (o : Order) (P : Permutes n o) (z : 0 < n) (eight : n ≤ 8) 
       goes : ℕ → Array ℕ → Procedure
       goes k mv = whileTrue o n (finishOf K s) k mv x y′ e
 
-      finish : Array ℕ → ℕ → ℕ → List ℕ → Procedure
+      finish : Array ℕ → ℕ → ℕ → List Value → Procedure
       finish mv = finishOf K s (vars mv x y′ e)
 
       -- line 4
@@ -732,8 +735,8 @@ cleared-stands n o P eight rs l j b =
 
     trimmed-zero : (old : Register) → trimmed n (laid n zeroRegister old) ≡ initial n
     trimmed-zero old =
-        trimmed-laid n zeroRegister old (length-take-le n (replicate 8 0) (omega arith))
-        ∙ ap (λ v. record { word = 0; seq = 0; view = v; at = 0 }) (take-replicate n 8 0 eight)
+        trimmed-laid n zeroRegister old (length-take-le n (replicate 8 zeroValue) (omega arith))
+        ∙ ap (λ v. record { value = zeroValue; seq = 0; view = v; at = 0 }) (take-replicate n 8 zeroValue eight)
 
 module _ (n : ℕ) (o : Order) (P : Permutes n o) (z : 0 < n) (eight : n ≤ 8) (p : Process) (sized : Sized p) where
   called-at : (K : Job) → At n o P z eight K (p .register .seq) (begin n (taskOf K 0) p) 0
@@ -749,7 +752,7 @@ module _ (n : ℕ) (o : Order) (P : Permutes n o) (z : 0 < n) (eight : n ≤ 8) 
               b = cleared-stands n o P eight (p .second) (sized .seconds);
               ended = refl;
             };
-        wide = λ j l. length-replicate n 0;
+        wide = λ j l. length-replicate n zeroValue;
         task = refl;
         seq = refl;
       }

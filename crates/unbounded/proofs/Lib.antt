@@ -9,6 +9,7 @@ pub mod Ties
 pub mod Deeds
 pub mod Demand3
 pub mod Book
+pub mod LastWritings
 pub mod Closing
 pub mod Runs
 pub mod Emptied

@@ -41,8 +41,9 @@ few-reads n l = let w = mul-le-mul l l in omega arith
 pub sound-due : (most e : ℕ) (p : Process) → unsound most e p ≡ false → overdue most (p .task) ≡ false
 unfolding unsound
 sound-due most e p q =
-    let late = or-neither (ltb e (p .register .seq)) (ltb e (p .register .at) || overdue most (p .task)) q in
-    or-neither (ltb e (p .register .at)) (overdue most (p .task)) (late .1) .1
+    let wrote = ltb e (p .register .value .last) in
+    let late = or-neither (ltb e (p .register .seq)) (ltb e (p .register .at) || (wrote || overdue most (p .task))) q in
+    or-neither wrote (overdue most (p .task)) (or-neither (ltb e (p .register .at)) (wrote || overdue most (p .task)) (late .1) .1) .1
 
 -- a process that has a task and can have arisen owes at least one turn
 busy-task-owes : (most : ℕ) (k : Task) → isIdle k ≡ false → overdue most k ≡ false → 0 < greatest most k - turnsOf k

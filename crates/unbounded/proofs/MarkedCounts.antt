@@ -11,6 +11,7 @@ use mathlib.Core.Option.{Option, none, some}
 use lib.ListN.{length, getD, set, take, replicate, length-set, length-replicate, getD-replicate}
 use lib.Seq.{getD-set-same, getD-set-other}
 use borrow.Author.Tests.{eq-eqb, ne-eqb, lt-ltb, le-ltb, lt-leb}
+use Rattle.snapshot.specs.declared.Value.{Value}
 use Rattle.snapshot.specs.Lists.{someOf, sumOf}
 use Rattle.snapshot.specs.Refusals.{outside, isPast}
 use Rattle.snapshot.specs.Demand.{admit, step}
@@ -34,16 +35,16 @@ use Rattle.unbounded.proofs.Reading.{decision-waits}
 use Rattle.unbounded.proofs.Limits.{few-reads}
 use Rattle.unbounded.proofs.Demand3.{opening-opens}
 
--- a page list of k words
+-- a page list of k places
 abbrev nines : ℕ → List ℕ
 nines k = replicate k 9
 
 -- the replies to a list, by the refusal of its first item
 module _ (n : ℕ) (s : State Process) (x : Item) (xs : List Item) where
-  abbrev repliesBy : Option Refusal → List (Reply ℕ)
+  abbrev repliesBy : Option Refusal → List (Reply Value)
   repliesBy k =
       let r = admit (method ascending n) s x k in
-      replyOf (take n (r .page)) (r .answer) ∷ replies (method ascending n) (r .state) xs
+      replyOf (method ascending n .shown (r .page)) (r .answer) ∷ replies (method ascending n) (r .state) xs
 
   replies-are : {k : Option Refusal} → refusal (figure3 ascending) s x ≡ k → replies (method ascending n) s (x ∷ xs) ≡ repliesBy k
   unfolding step
@@ -64,7 +65,7 @@ module _ (n : ℕ) (z : 0 < n) (eight : n ≤ 8) where
   unfolding accept
   opening-replies xs =
       replies-are n (blank n) (openFor n) xs opening-accepted
-      ∙ ap {B = List (Reply ℕ)} (λ s. opened ∷ replies (method ascending n) s xs)
+      ∙ ap {B = List (Reply Value)} (λ s. opened ∷ replies (method ascending n) s xs)
       (opening-opens ascending (blank n) n opening-accepted .0)
 
   -- ---- day G
@@ -86,13 +87,13 @@ module _ (n : ℕ) (z : 0 < n) (eight : n ≤ 8) where
   zeros-owe = sum-replicate (processOwes (figure3 ascending) n) n zeroProcess refl
 
   outside-refused : (d : ℕ) → outside 1 n d ≡ true →
-      refusal (figure3 ascending) (openedFor n) (turnOf d (nines n)) ≡ some ProcessRange
+      refusal (figure3 ascending) (openedFor n) (turnOf d (nines (2 * n))) ≡ some ProcessRange
   unfolding refusal Days.openedFor isPast
   outside-refused d h =
       rw (
         ne-eqb n 0 (λ q. omega arith),
         eq-eqb (length zeros) n (length-replicate n zeroProcess),
-        le-ltb (length (nines n)) n (omega (arith, length-replicate {A = ℕ} n 9)),
+        le-ltb (length (nines (2 * n))) (2 * n) (omega (arith, length-replicate {A = ℕ} (2 * n) 9)),
         le-ltb 8 n eight,
         zeros-owe,
         sound-zeros 0,
@@ -101,11 +102,11 @@ module _ (n : ℕ) (z : 0 < n) (eight : n ≤ 8) where
 
   pub day-g-follows : played (dayG n) ≡ dayG n .expected
   day-g-follows =
-      opening-replies (turnOf 0 (nines n) ∷ turnOf (n + 1) (nines n) ∷ [])
-      ∙ ap {B = List (Reply ℕ)} (λ r. opened ∷ r)
-      (replies-are n (openedFor n) (turnOf 0 (nines n)) (turnOf (n + 1) (nines n) ∷ []) (outside-refused 0 refl)
-      ∙ ap {B = List (Reply ℕ)} (λ r. refused 2 ∷ r)
-      (replies-are n (openedFor n) (turnOf (n + 1) (nines n)) []
+      opening-replies (turnOf 0 (nines (2 * n)) ∷ turnOf (n + 1) (nines (2 * n)) ∷ [])
+      ∙ ap {B = List (Reply Value)} (λ r. opened ∷ r)
+      (replies-are n (openedFor n) (turnOf 0 (nines (2 * n))) (turnOf (n + 1) (nines (2 * n)) ∷ []) (outside-refused 0 refl)
+      ∙ ap {B = List (Reply Value)} (λ r. refused 2 ∷ r)
+      (replies-are n (openedFor n) (turnOf (n + 1) (nines (2 * n))) []
       (outside-refused (n + 1) (rw (le-ltb (n + 1) 1 (omega arith), lt-ltb n (n + 1) (omega arith))))))
 
   -- ---- day H
@@ -171,14 +172,14 @@ module _ (n : ℕ) (z : 0 < n) (eight : n ≤ 8) where
       let set-owes = sum-set (processOwes (figure3 ascending) n) zeros 0 scanner noProcess (omega (arith, length-replicate n zeroProcess)) in
       omega (arith, zeros-owe)
 
-  turn-accepted : refusal (figure3 ascending) (dayWith 1 scanner) (turnOf 1 (nines n)) ≡ none
+  turn-accepted : refusal (figure3 ascending) (dayWith 1 scanner) (turnOf 1 (nines (2 * n))) ≡ none
   unfolding refusal isPast begin
   turn-accepted =
       let few = scanner-owes in
       rw (
         ne-eqb n 0 (λ q. omega arith),
         eq-eqb (length (tableWith scanner)) n (length-with scanner),
-        le-ltb (length (nines n)) n (omega (arith, length-replicate {A = ℕ} n 9)),
+        le-ltb (length (nines (2 * n))) (2 * n) (omega (arith, length-replicate {A = ℕ} (2 * n) 9)),
         le-ltb 8 n eight,
         le-ltb 65535 (1 + owed (tableWith scanner)) (omega arith),
         sound-calls,
@@ -191,49 +192,49 @@ module _ (n : ℕ) (z : 0 < n) (eight : n ≤ 8) where
   unfolding foundBy position
   finds-none now r p = rw (zero-mod (2 * n), decision-waits n ascending 0 _ _ _ (λ q. omega arith))
 
-  turn-reads : turnBy (figure3 ascending) (dayWith 1 scanner) 1 (nines n) .answer ≡ Read
+  turn-reads : turnBy (figure3 ascending) (dayWith 1 scanner) 1 (nines (2 * n)) .answer ≡ Read
   unfolding turnBy turned begin
   turn-reads =
       let r = readFrom (figure3 ascending) (tableWith scanner) (reads ascending n (Scan 0)) .register in
       ap
       (λ p.
-      turned ascending n 2 (readFrom (figure3 ascending) (tableWith scanner) (reads ascending n (p .task)) .register) (nines n) p
+      turned ascending n 2 (readFrom (figure3 ascending) (tableWith scanner) (reads ascending n (p .task)) .register) (nines (2 * n)) p
       .answer)
       (first-with scanner)
-      ∙ ap (λ f. scanTurn ascending n 2 r (nines n) scanner 0 f .answer) (finds-none 2 r scanner)
+      ∙ ap (λ f. scanTurn ascending n 2 r (nines (2 * n)) scanner 0 f .answer) (finds-none 2 r scanner)
 
   short-refused : (e : ℕ) (ps : List Process) → length ps ≡ n →
-      refusal (figure3 ascending) (record { day = record { count = n; event = e }; table = ps }) (turnOf 1 (nines (n - 1)))
+      refusal (figure3 ascending) (record { day = record { count = n; event = e }; table = ps }) (turnOf 1 (nines (2 * n - 1)))
       ≡ some LentSize
   unfolding refusal
   short-refused e ps l =
       rw (
         ne-eqb n 0 (λ q. omega arith),
         eq-eqb (length ps) n l,
-        lt-ltb (length (nines (n - 1))) n (omega (arith, length-replicate {A = ℕ} (n - 1) 9)),
+        lt-ltb (length (nines (2 * n - 1))) (2 * n) (omega (arith, length-replicate {A = ℕ} (2 * n - 1) 9)),
       )
 
-  -- the second turn, with a page list of n - 1 words
+  -- the second turn, with a page list of 2n - 1 places
   abbrev last : List Item
-  last = turnOf 1 (nines (n - 1)) ∷ []
+  last = turnOf 1 (nines (2 * n - 1)) ∷ []
 
-  turn-replies : replies (method ascending n) (dayWith 1 scanner) (turnOf 1 (nines n) ∷ last) ≡ read ∷ refused 6 ∷ []
+  turn-replies : replies (method ascending n) (dayWith 1 scanner) (turnOf 1 (nines (2 * n)) ∷ last) ≡ read ∷ refused 6 ∷ []
   unfolding accept advance
   turn-replies =
-      let r = turnBy (figure3 ascending) (dayWith 1 scanner) 1 (nines n) in
+      let r = turnBy (figure3 ascending) (dayWith 1 scanner) 1 (nines (2 * n)) in
       let ps = set (tableWith scanner) 0 (r .state) in
       let left : State Process = record { day = record { count = n; event = 2 }; table = ps } in
-      replies-are n (dayWith 1 scanner) (turnOf 1 (nines n)) last turn-accepted
-      ∙ ap (λ a. replyOf (take n (r .page)) a ∷ replies (method ascending n) left last) turn-reads
-      ∙ ap {B = List (Reply ℕ)} (λ xs. read ∷ xs)
-      (replies-are n left (turnOf 1 (nines (n - 1))) []
+      replies-are n (dayWith 1 scanner) (turnOf 1 (nines (2 * n))) last turn-accepted
+      ∙ ap (λ a. replyOf (method ascending n .shown (r .page)) a ∷ replies (method ascending n) left last) turn-reads
+      ∙ ap {B = List (Reply Value)} (λ xs. read ∷ xs)
+      (replies-are n left (turnOf 1 (nines (2 * n - 1))) []
       (short-refused 2 ps (length-set (tableWith scanner) 0 (r .state) ∙ length-with scanner)))
 
   pub day-h-follows : played (dayH n) ≡ dayH n .expected
   unfolding accept
   day-h-follows =
-      opening-replies (scanCall 1 ∷ turnOf 1 (nines n) ∷ last)
-      ∙ ap {B = List (Reply ℕ)} (λ r. opened ∷ r)
-      (replies-are n (openedFor n) (scanCall 1) (turnOf 1 (nines n) ∷ last) call-accepted
-      ∙ ap {B = List (Reply ℕ)} (λ r. called ∷ r)
-      (ap (λ s. replies (method ascending n) s (turnOf 1 (nines n) ∷ last)) call-leaves ∙ turn-replies))
+      opening-replies (scanCall 1 ∷ turnOf 1 (nines (2 * n)) ∷ last)
+      ∙ ap {B = List (Reply Value)} (λ r. opened ∷ r)
+      (replies-are n (openedFor n) (scanCall 1) (turnOf 1 (nines (2 * n)) ∷ last) call-accepted
+      ∙ ap {B = List (Reply Value)} (λ r. called ∷ r)
+      (ap (λ s. replies (method ascending n) s (turnOf 1 (nines (2 * n)) ∷ last)) call-leaves ∙ turn-replies))

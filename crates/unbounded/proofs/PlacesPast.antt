@@ -1,5 +1,5 @@
 -- "A collect has eight rows and a view eight words; those past n are touched only by an opening", and of a page list "its first n
--- are written by a page answer; later words .. remain": an accepted call or turn leaves them all.
+-- are written by a page answer; later words .. remain", by K6 its first 2n: an accepted call or turn leaves them all.
 use Prim.Native.Nat.{ℕ, zero, suc, _+_, _-_, _≤_, _<_}
 use native.Mathlib.Omega.{arith}
 use native.Mathlib.Decide.{ℕ-discrete}
@@ -11,6 +11,8 @@ use mathlib.Core.Option.{Option, none, some}
 use lib.ListN.{length, getD, set, drop, replicate, length-map}
 use lib.Seq.{getD-set-same, getD-set-other, drop-set-lt, map-set-same}
 use lib.Dec.{ltb}
+use Rattle.snapshot.specs.declared.Value.{Value}
+use Rattle.snapshot.specs.Values.{zeroValue, stored, pagePlaces, listed}
 use Rattle.snapshot.specs.Lists.{over}
 use Rattle.snapshot.specs.Refusals.{firstCause}
 use Rattle.snapshot.specs.Marks.{Found}
@@ -19,6 +21,7 @@ use Rattle.snapshot.specs.Demand.{Result}
 use Rattle.snapshot.specs.Days as Days
 use Rattle.snapshot.specs.Days.{State, Item, openFor, updateCall, scanCall, turnOf, sees, pageLent, refusal}
 use Rattle.snapshot.specs.Days.{callCauses, turnCauses, advance, calledBy, readFrom, turnBy, accept}
+use Rattle.snapshot.proofs.Values.{length-listed}
 use Rattle.snapshot.proofs.Lists.{drop-over}
 use Rattle.snapshot.proofs.Admitted.{admitted-call, admitted-turn, admitted-opening}
 use Rattle.snapshot.proofs.Stepped.{grown, grown-count}
@@ -35,19 +38,19 @@ use Rattle.unbounded.proofs.Reading.{position-low, place-below}
 use Rattle.unbounded.proofs.Scans.{Permutes}
 use Rattle.unbounded.proofs.Whole.{Whole, Full, found-by-full, grown-whole}
 
--- the words past n of each view
-abbrev pub wordsPast : ℕ → List Register → List (List ℕ)
-wordsPast n rs = map (λ r. drop n (r .view)) rs
+-- the values past n of each view
+abbrev pub valuesPast : ℕ → List Register → List (List Value)
+valuesPast n rs = map (λ r. drop n (r .view)) rs
 
--- past n, record q is as record p: the words of the register's view and of the kept view, the registers of both collects, and the
--- words of every collected view
+-- past n, record q is as record p: the values of the register's view and of the kept view, the registers of both collects, and the
+-- values of every collected view
 pub record SamePast (n : ℕ) (p q : Process) : Type 0 where
   pub register : drop n (q .register .view) ≡ drop n (p .register .view)
   pub view : drop n (q .view) ≡ drop n (p .view)
   pub firsts : drop n (q .first) ≡ drop n (p .first)
   pub seconds : drop n (q .second) ≡ drop n (p .second)
-  pub first-views : wordsPast n (q .first) ≡ wordsPast n (p .first)
-  pub second-views : wordsPast n (q .second) ≡ wordsPast n (p .second)
+  pub first-views : valuesPast n (q .first) ≡ valuesPast n (p .first)
+  pub second-views : valuesPast n (q .second) ≡ valuesPast n (p .second)
 
 same-past : (n : ℕ) (p : Process) → SamePast n p p
 same-past n p = record { register = refl; view = refl; firsts = refl; seconds = refl; first-views = refl; second-views = refl }
@@ -73,7 +76,7 @@ module _ (n : ℕ) where
     unfolding readInto
     read-past b = drop-set-lt n rs i (laid n r (getD rs i noRegister)) b
 
-    read-views : wordsPast n (readInto n r i rs) ≡ wordsPast n rs
+    read-views : valuesPast n (readInto n r i rs) ≡ valuesPast n rs
     unfolding readInto
     read-views =
         map-set-same (λ r. drop n (r .view)) rs i (laid n r (getD rs i noRegister)) noRegister
@@ -85,7 +88,7 @@ module _ (n : ℕ) where
     cleared-past l =
         drop-over n (map (laid n zeroRegister) rs) rs (let q = length-map rs (laid n zeroRegister) in omega arith)
 
-    cleared-views : wordsPast n (cleared n rs) ≡ wordsPast n rs
+    cleared-views : valuesPast n (cleared n rs) ≡ valuesPast n rs
     unfolding cleared
     cleared-views =
         map-over-map (λ r. drop n (r .view)) (laid n zeroRegister)
@@ -101,11 +104,11 @@ module _ (n : ℕ) where
         go true = read-past r l (placeAt n pos) rs low
         go false = refl
 
-    first-words : wordsPast n (firstAfter n pos r rs) ≡ wordsPast n rs
+    first-values : valuesPast n (firstAfter n pos r rs) ≡ valuesPast n rs
     unfolding firstAfter
-    first-words = go (ltb pos n)
+    first-values = go (ltb pos n)
       where
-        go : (b : Bool) → wordsPast n (cond b (readInto n r (placeAt n pos) rs) rs) ≡ wordsPast n rs
+        go : (b : Bool) → valuesPast n (cond b (readInto n r (placeAt n pos) rs) rs) ≡ valuesPast n rs
         go true = read-views r l (placeAt n pos) rs
         go false = refl
 
@@ -117,11 +120,11 @@ module _ (n : ℕ) where
         go true = refl
         go false = read-past r l (placeAt n pos) rs low
 
-    second-words : wordsPast n (secondAfter n pos r rs) ≡ wordsPast n rs
+    second-values : valuesPast n (secondAfter n pos r rs) ≡ valuesPast n rs
     unfolding secondAfter
-    second-words = go (ltb pos n)
+    second-values = go (ltb pos n)
       where
-        go : (b : Bool) → wordsPast n (cond b rs (readInto n r (placeAt n pos) rs)) ≡ wordsPast n rs
+        go : (b : Bool) → valuesPast n (cond b rs (readInto n r (placeAt n pos) rs)) ≡ valuesPast n rs
         go true = refl
         go false = read-views r l (placeAt n pos) rs
 
@@ -132,7 +135,7 @@ module _ (n : ℕ) (eight : n ≤ 8) (p : Process) (w : Whole p) where
   emptied-past r k q =
       record {
         register = q;
-        view = drop-over n (replicate 8 0) (p .view) (omega arith);
+        view = drop-over n (replicate 8 zeroValue) (p .view) (omega arith);
         firsts = cleared-past n eight (p .first) (omega (arith, w .first .places));
         seconds = cleared-past n eight (p .second) (omega (arith, w .second .places));
         first-views = cleared-views n eight (p .first);
@@ -143,18 +146,18 @@ module _ (n : ℕ) (eight : n ≤ 8) (p : Process) (w : Whole p) where
   unfolding begin
   begin-past k = emptied-past (p .register) k refl
 
-  written-past : (x at : ℕ) → drop n (written n x at p .view) ≡ drop n (p .register .view)
+  written-past : (now x at : ℕ) → drop n (written n now x at p .view) ≡ drop n (p .register .view)
   unfolding written
-  written-past x at =
-      laid-past n (record { word = x; seq = p .register .seq + 1; view = p .view; at = at }) (p .register)
+  written-past now x at =
+      laid-past n (record { value = stored now x; seq = p .register .seq + 1; view = p .view; at = at }) (p .register)
       (omega (arith, w .view))
 
   -- a turn that reads register r
   module _ (o : Order) (z : 0 < n) (now : ℕ) (r : Register) (l : n ≤ length (r .view)) (page : List ℕ) where
     abbrev Stays : Result Process → Type 0
-    Stays x = SamePast n p (x .state) × (drop n (x .page) ≡ drop n page)
+    Stays x = SamePast n p (x .state) × (drop (pagePlaces n) (x .page) ≡ drop (pagePlaces n) page)
 
-    after-read-past : (t : ℕ) (k : Task) (v : List ℕ) → drop n v ≡ drop n (p .view) →
+    after-read-past : (t : ℕ) (k : Task) (v : List Value) → drop n v ≡ drop n (p .view) →
         SamePast n p (afterRead o n now (position n t) r p k v)
     unfolding afterRead
     after-read-past t k v q =
@@ -165,15 +168,18 @@ module _ (n : ℕ) (eight : n ≤ 8) (p : Process) (w : Whole p) where
           view = q;
           firsts = first-past n pos r low l (p .first);
           seconds = second-past n pos r low l (p .second);
-          first-views = first-words n pos r low l (p .first);
-          second-views = second-words n pos r low l (p .second);
+          first-views = first-values n pos r low l (p .first);
+          second-views = second-values n pos r low l (p .second);
         }
 
-    scan-past : (t : ℕ) (f : Option (Found ℕ)) → Full n f → Stays (scanTurn o n now r page p t f)
+    scan-past : (t : ℕ) (f : Option (Found Value)) → Full n f → Stays (scanTurn o n now r page p t f)
     scan-past t none h = (after-read-past t (Scan (t + 1)) (p .view) refl, refl)
-    scan-past t (some f) h = (begin-past Idle, drop-over n (f .words) page h)
+    scan-past t (some f) h = (
+      begin-past Idle,
+      drop-over (pagePlaces n) (listed (f .words)) page (omega (arith, length-listed (f .words))),
+    )
 
-    update-past : (x t : ℕ) (f : Option (Found ℕ)) → Full n f → Stays (updateTurn o n now r page p x t f)
+    update-past : (x t : ℕ) (f : Option (Found Value)) → Full n f → Stays (updateTurn o n now r page p x t f)
     update-past x t none h = (after-read-past t (Update x (t + 1)) (p .view) refl, refl)
     update-past x t (some f) h = (
       after-read-past t (Ready x (f .instant) (t + 1)) (over n (f .words) (p .view)) (drop-over n (f .words) (p .view) h),
@@ -212,7 +218,7 @@ module _ (o : Order) (s : State Process) (P : Permutes (s .day .count) o)
 
   turned-past : (i now : ℕ) (page : List ℕ) → i < n → 0 < n → n ≤ 8 →
       let r = turned o n now (readFrom (figure3 o) (s .table) (reads o n (at i .task)) .register) page (at i) in
-      SamePast n (at i) (r .state) × (drop n (r .page) ≡ drop n page)
+      SamePast n (at i) (r .state) × (drop (pagePlaces n) (r .page) ≡ drop (pagePlaces n) page)
   unfolding turned
   turned-past i now page b z eight = go (at i .task)
     where
@@ -224,7 +230,7 @@ module _ (o : Order) (s : State Process) (P : Permutes (s .day .count) o)
 
       go : (k : Task) →
           let r = turnedBy o n now (readFrom (figure3 o) (s .table) (reads o n k) .register) page (at i) k in
-          SamePast n (at i) (r .state) × (drop n (r .page) ≡ drop n page)
+          SamePast n (at i) (r .state) × (drop (pagePlaces n) (r .page) ≡ drop (pagePlaces n) page)
       go Idle = (same-past n (at i), refl)
       go (Scan t) =
           let r = at (o .register (placeAt n (position n t))) .register in
@@ -235,14 +241,14 @@ module _ (o : Order) (s : State Process) (P : Permutes (s .day .count) o)
           update-past n eight (at i) (whole i b) o z now r (read-long-view t) page x t (foundBy o n now (position n t) r (at i))
           (found-by-full n eight (at i) (whole i b) o P now r (read-long-view t) (position n t))
       go (Ready x t′ t) = (
-        emptied-past n eight (at i) (whole i b) (written n x t′ (at i)) Idle (written-past n eight (at i) (whole i b) x t′),
+        emptied-past n eight (at i) (whole i b) (written n now x t′ (at i)) Idle (written-past n eight (at i) (whole i b) now x t′),
         refl,
       )
 
   turn-past : (d : ℕ) (page : List ℕ) → firstCause (turnCauses (figure3 o) s d page) ≡ none →
       let r = turnBy (figure3 o) s d page in
       ((i : ℕ) → SamePast n (at i) (getD (advance (figure3 o) s d (r .state) .table) i noProcess))
-      × (drop n (r .page) ≡ drop n page)
+      × (drop (pagePlaces n) (r .page) ≡ drop (pagePlaces n) page)
   unfolding turnBy
   turn-past d page q =
       let a = admitted-turn (figure3 o) s d page q in
@@ -257,7 +263,7 @@ pub past-n-stays : (o : Order) (s : State Process) (x : Item) → sees x ≢ ope
     let r = accept (figure3 o) s x in
     Permutes n o → ((i : ℕ) → i < n → Whole (getD (s .table) i noProcess)) →
     ((i : ℕ) → SamePast n (getD (s .table) i noProcess) (getD (r .state .table) i noProcess))
-    × (drop n (r .page) ≡ drop n (pageLent x))
+    × (drop (pagePlaces n) (r .page) ≡ drop (pagePlaces n) (pageLent x))
 unfolding refusal accept
 past-n-stays o s (openFor k) h q P whole = absurd (h refl)
 past-n-stays o s (updateCall d w) h q P whole = (call-past o s P whole d (update d w) q, refl)
@@ -278,7 +284,7 @@ pub past-n-stays-grown : (o : Order) (n : ℕ) → Permutes n o → 0 < n → (x
     let r = accept (figure3 o) s x in
     refusal (figure3 o) s x ≡ none →
     ((i : ℕ) → SamePast n (getD (s .table) i noProcess) (getD (r .state .table) i noProcess))
-    × (drop n (r .page) ≡ drop n (pageLent x))
+    × (drop (pagePlaces n) (r .page) ≡ drop (pagePlaces n) (pageLent x))
 unfolding Days.openedFor
 past-n-stays-grown o n P z xs x q =
     let s = grown (figure3 o) (openedFor n) xs in
@@ -287,7 +293,7 @@ past-n-stays-grown o n P z xs x q =
     (λ k.
     let r = accept (figure3 o) s x in
     ((i : ℕ) → SamePast k (getD (s .table) i noProcess) (getD (r .state .table) i noProcess))
-    × (drop k (r .page) ≡ drop k (pageLent x)))
+    × (drop (pagePlaces k) (r .page) ≡ drop (pagePlaces k) (pageLent x)))
     c
     (past-n-stays o s x (not-opening o s x (λ h. omega arith) q) q (subst (λ k. Permutes k o) (sym c) P)
     (λ i b. grown-whole o n P z xs i (subst (λ k. i < k) c b)))

@@ -12,6 +12,8 @@ use lib.ListN.{length, getD, set, take, replicate, length-map, length-set, lengt
 use lib.Seq.{length-take-le, getD-set-same, getD-set-other}
 use lib.Dec.{eqb, ltb}
 use borrow.Author.Tests.{eqb-true, eqb-false}
+use Rattle.snapshot.specs.declared.Value.{Value}
+use Rattle.snapshot.specs.Values.{zeroValue, stored}
 use Rattle.snapshot.specs.Lists.{over, each, everyFrom}
 use Rattle.snapshot.specs.Tally.{Job, scan, update}
 use Rattle.snapshot.specs.Marks.{lends, Found}
@@ -49,7 +51,7 @@ use Rattle.unbounded.proofs.Figure3.{Does, turns-are-figure-3}
 -- ---- arrays keep their sizes
 
 module _ (n : ℕ) (eight : n ≤ 8) where
-  -- the registers of a collect have eight words of view
+  -- the registers of a collect have eight values of view
   abbrev Views : List Register → Type 0
   Views rs = (i : ℕ) → i < n → length (getD rs i noRegister .view) ≡ 8
 
@@ -92,7 +94,7 @@ module _ (n : ℕ) (eight : n ≤ 8) where
       record {
         sized = sized-emptied n r k p eight (W .sized);
         register = full;
-        view = length-over n (replicate 8 0) (p .view) (length-take-le n (replicate 8 0) (omega arith)) (omega arith) ∙ v;
+        view = length-over n (replicate 8 zeroValue) (p .view) (length-take-le n (replicate 8 zeroValue) (omega arith)) (omega arith) ∙ v;
         views = views-cleared (p .second) (W .sized .seconds) (W .views);
       }
 
@@ -111,13 +113,13 @@ module _ (n : ℕ) (eight : n ≤ 8) where
         go true = W .views
         go false = views-read r (placeAt n pos) (p .second) (place-below n pos low) (W .sized .seconds) full (W .views)
 
-    whole-read : (k : Task) (v : List ℕ) → length v ≡ 8 → Whole (afterRead o n now pos r p k v)
+    whole-read : (k : Task) (v : List Value) → length v ≡ 8 → Whole (afterRead o n now pos r p k v)
     unfolding afterRead
     whole-read k v l =
         record { sized = sized-read o n now pos r p k v (W .sized); register = W .register; view = l; views = views-second }
 
-    -- a page that is found has n words
-    abbrev Full : Option (Found ℕ) → Type 0
+    -- a page that is found has n values
+    abbrev Full : Option (Found Value) → Type 0
     Full none = Unit {0}
     Full (some f) = length (f .words) ≡ n
 
@@ -143,7 +145,7 @@ module _ (n : ℕ) (eight : n ≤ 8) where
         go true = by (verdict-ends n (differs o a b) (lends (differs o a b) (p .moved)))
         go false = tt
 
-    whole-found : (page : List ℕ) (w t : ℕ) → position n t ≡ pos → (f : Option (Found ℕ)) → Full f →
+    whole-found : (page : List ℕ) (w t : ℕ) → position n t ≡ pos → (f : Option (Found Value)) → Full f →
         Whole (scanTurn o n now r page p t f .state) × Whole (updateTurn o n now r page p w t f .state)
     whole-found page w t q none l =
         let here : (k : Task) → Whole (afterRead o n now (position n t) r p k (p .view)) =
@@ -157,12 +159,12 @@ module _ (n : ℕ) (eight : n ≤ 8) where
           (length-over n (f .words) (p .view) (length-take-le n (f .words) (omega arith)) (omega arith) ∙ v))),
     )
 
-  -- a turn, whose read, if it reads, returns a register with its eight words of view
+  -- a turn, whose read, if it reads, returns a register with its eight values of view
   module _ (z : 0 < n) (o : Order) (P : Permutes n o) (now : ℕ) (r : Register) (page : List ℕ) (p : Process) (W : Whole p) where
-    length-written : (w at : ℕ) → length (written n w at p .view) ≡ 8
+    length-written : (w at : ℕ) → length (written n now w at p .view) ≡ 8
     unfolding written
     length-written w at =
-        length-laid (record { word = w; seq = p .register .seq + 1; view = p .view; at = at }) (p .register) (W .view)
+        length-laid (record { value = stored now w; seq = p .register .seq + 1; view = p .view; at = at }) (p .register) (W .view)
         (W .register)
 
     whole-turned : ((j : ℕ) → reads o n (p .task) ≡ some j → length (r .view) ≡ 8) → Whole (turned o n now r page p .state)
@@ -182,7 +184,7 @@ module _ (n : ℕ) (eight : n ≤ 8) where
         go (Scan t) h = here t (h (o .register (placeAt n (position n t))) refl) 0 .0
         go (Update w t) h = here t (h (o .register (placeAt n (position n t))) refl) w .1
         go (Ready w at t) h =
-            whole-emptied (written n w at p) Idle p (length-written w at) W
+            whole-emptied (written n now w at p) Idle p (length-written w at) W
 
 reads-within : (o : Order) (n : ℕ) → Permutes n o → 0 < n → (k : Task) (j : ℕ) → reads o n k ≡ some j → j < n
 reads-within o n P z Idle j q = absurd (Option·none-ne-some j q)
@@ -215,7 +217,7 @@ after-map : (o : Order) (n : ℕ) (N N′ : Process → Type 0) (t : ℕ) (p : P
     (q : Procedure) → (N (x .state) → N′ (x .state)) → After o n N t p page x q → After o n N′ t p page x q
 after-map o n N N′ t p page x (read v j next) f h = (h .0, h .1, h .2, f (h .3))
 after-map o n N N′ t p page x (write v w) f h = (h .0, h .1, h .2, f (h .3))
-after-map o n N N′ t p page x (return from at words) f h = h
+after-map o n N N′ t p page x (return from at values) f h = h
 after-map o n N N′ t p page x spent f h = f h
 
 -- an item is an accepted turn of process d, or it is not
@@ -238,7 +240,7 @@ Lasts : Procedure → ℕ → Type 0
 Lasts (read v j next) zero = Unit {0}
 Lasts (read v j next) (suc m) = (now : ℕ) (r : Register) → Lasts (next now r) m
 Lasts (write v w) m = Unit {0}
-Lasts (return from at words) m = Unit {0}
+Lasts (return from at values) m = Unit {0}
 Lasts spent m = ⊥
 
 lasts-fewer : (q : Procedure) (k m : ℕ) → m ≤ k → Lasts q k → Lasts q m
@@ -247,7 +249,7 @@ lasts-fewer (read v j next) k zero l h = tt
 lasts-fewer (read v j next) zero (suc m) l h = absurd (omega arith)
 lasts-fewer (read v j next) (suc k) (suc m) l h = λ now r. lasts-fewer (next now r) k m (omega arith) (h now r)
 lasts-fewer (write v w) k m l h = tt
-lasts-fewer (return from at words) k m l h = tt
+lasts-fewer (return from at values) k m l h = tt
 lasts-fewer spent k m l h = h
 
 either-lasts : (b : Bool) (p q : Procedure) (m : ℕ) → Lasts p m → Lasts q m → Lasts (cond b p q) m
@@ -264,9 +266,9 @@ collect-lasts o (suc k) p v last x next (suc m) h = λ now r.
     collect-lasts o k (suc p) v now (assigned x (o .register p) r) next m
     (λ last x. lasts-fewer (next last x) (suc m) m (omega arith) (h last x))
 
-module _ (a b : Array Register) (again : Array ℕ → Procedure) (finish : Array ℕ → (lender at : ℕ) → List ℕ → Procedure) (m : ℕ)
+module _ (a b : Array Register) (again : Array ℕ → Procedure) (finish : Array ℕ → (lender at : ℕ) → List Value → Procedure) (m : ℕ)
     (h : (moved : Array ℕ) → Lasts (again moved) m)
-    (g : (moved : Array ℕ) (from at : ℕ) (words : List ℕ) → Lasts (finish moved from at words) m) where
+    (g : (moved : Array ℕ) (from at : ℕ) (values : List Value) → Lasts (finish moved from at values) m) where
   search-lasts : (k j : ℕ) (moved : Array ℕ) → Lasts (search k j a b moved again finish) m
   unfolding search
   search-lasts zero j moved = h moved
@@ -279,8 +281,8 @@ module _ (a b : Array Register) (again : Array ℕ → Procedure) (finish : Arra
       (search-lasts k (suc j) (assigned moved j (moved j + 1))))
 
 -- a round takes an access at least
-module _ (o : Order) (F : Variables → (lender at : ℕ) → List ℕ → Procedure)
-    (g : (v : Variables) (from at : ℕ) (words : List ℕ) (m : ℕ) → Lasts (F v from at words) m) where
+module _ (o : Order) (F : Variables → (lender at : ℕ) → List Value → Procedure)
+    (g : (v : Variables) (from at : ℕ) (values : List Value) (m : ℕ) → Lasts (F v from at values) m) where
   while-lasts : (n k : ℕ) (moved : Array ℕ) (a b : Array Register) (e : ℕ) → 0 < n → Lasts (whileTrue o n F (suc k) moved a b e) k
   unfolding Lasts collect whileTrue
   while-lasts zero k moved a b e z = absurd (omega arith)
@@ -296,7 +298,7 @@ module _ (o : Order) (F : Variables → (lender at : ℕ) → List ℕ → Proce
       (g (record { moved = moved; a = a; b = b; ended = e }) 0 e (each (suc n) (λ j. value (b j))) k)
       (search-lasts a b (λ moved. whileTrue o (suc n) F (suc k) moved a b e)
       (λ moved. F (record { moved = moved; a = a; b = b; ended = e })) k (λ moved. while-lasts (suc n) k moved a b e z)
-      (λ moved from at words. g (record { moved = moved; a = a; b = b; ended = e }) from at words k) (suc n) 0 moved)))
+      (λ moved from at values. g (record { moved = moved; a = a; b = b; ended = e }) from at values k) (suc n) 0 moved)))
     where
       searches : (a b : Array Register) (e : ℕ) → Procedure
       searches a b e =
@@ -318,12 +320,13 @@ module _ (o : Order) (F : Variables → (lender at : ℕ) → List ℕ → Proce
 
 scan-lasts : (o : Order) (n k m : ℕ) → 0 < n → m < k → Lasts (scanProcedure o n k) m
 unfolding Lasts
-scan-lasts o n k m z l = for-lasts o (λ v. return) (λ v from at words m. tt) n k m z l
+scan-lasts o n k m z l = for-lasts o (λ v. return) (λ v from at values m. tt) n k m z l
 
 update-lasts : (o : Order) (n k w s m : ℕ) → 0 < n → m < k → Lasts (updateProcedure o n k w s) m
 unfolding Lasts
 update-lasts o n k w s m z l =
-    for-lasts o (λ v from at words. write v (record { word = w; seq = s + 1; view = words; at = at })) (λ v from at words m. tt)
+    for-lasts o (λ v from at values. write v (λ now. record { value = stored now w; seq = s + 1; view = values; at = at }))
+    (λ v from at values m. tt)
     n k m z l
 
 -- ---- a day
@@ -489,7 +492,7 @@ module _ (n : ℕ) (z : 0 < n) (eight : n ≤ 8) (o : Order) (P : Permutes n o) 
     unfolding Does Lasts
     does-stands (read v j next) t p k l D = D .0
     does-stands (write v w) t p k l D = D .0
-    does-stands (return from at words) t p k l D = tt
+    does-stands (return from at values) t p k l D = tt
     does-stands spent t p k l D = l
 
     module _ (Rest : Procedure → ℕ → State Process → Type 0) (k : ℕ)
@@ -527,11 +530,11 @@ module _ (n : ℕ) (z : 0 < n) (eight : n ≤ 8) (o : Order) (P : Permutes n o) 
           let wrote = D .1 (s .day .event + 1) (readBy s L d) in
           by-turn d x (refusal M s x)
           (λ page e a.
-          subst (λ x. Wrote o n w (suc t) p (pageLent x) (ownOf o d (stepped M s x))) (sym e)
-          (subst (λ x. Wrote o n w (suc t) p page x) (sym (own-turn s L d page m (subst (λ x. refusal M s x ≡ none) e a)))
+          subst (λ x. Wrote o n (w (s .day .event + 1)) (suc t) p (pageLent x) (ownOf o d (stepped M s x))) (sym e)
+          (subst (λ x. Wrote o n (w (s .day .event + 1)) (suc t) p page x) (sym (own-turn s L d page m (subst (λ x. refusal M s x ≡ none) e a)))
           (wrote page)))
           (others-follow (write v w) l D (writes-busy o n (s .day .event + 1) (readBy s L d) [] p (suc t) (wrote [] .0)))
-      follows (return from at words) l D = tt
+      follows (return from at values) l D = tt
       follows spent l D = tt
 
     performs : (xs : List Item) (q : Procedure) (t : ℕ) (s : State Process) → Lent s → Lasts q (length xs) →

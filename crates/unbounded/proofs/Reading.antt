@@ -11,6 +11,7 @@ use lib.ListN.{length, length-map, length-replicate}
 use lib.Seq.{length-take-le}
 use lib.Dec.{ltb}
 use borrow.Author.Tests.{ltb-true, ltb-false, lt-ltb, le-ltb, eq-eqb, ne-eqb}
+use Rattle.snapshot.specs.declared.Value.{Value}
 use Rattle.snapshot.specs.Verdict.{verdict}
 use Rattle.snapshot.specs.Marks.{lends, passed}
 use Rattle.snapshot.proofs.Lists.{length-over}
@@ -125,7 +126,7 @@ pub sized-begin : (n : ℕ) (k : Task) (p : Process) → n ≤ 8 → Sized p →
 unfolding begin
 sized-begin n k p b S = sized-emptied n (p .register) k p b S
 
-pub sized-read : (o : Order) (n now pos : ℕ) (r : Register) (p : Process) (k : Task) (v : List ℕ) → Sized p →
+pub sized-read : (o : Order) (n now pos : ℕ) (r : Register) (p : Process) (k : Task) (v : List Value) → Sized p →
     Sized (afterRead o n now pos r p k v)
 unfolding afterRead marksAfter
 sized-read o n now pos r p k v S =

@@ -6,6 +6,7 @@ use Rattle.snapshot.specs.Refusals.{isPast}
 use Rattle.snapshot.specs.Days as Days
 use Rattle.snapshot.specs.Days.{refusal, openedBy, advance, calledBy, turnBy, accept, stepped}
 use Rattle.snapshot.specs.Runs.{turnsFrom, ran}
+use Rattle.snapshot.specs.Values.{listed}
 use Rattle.snapshot.specs.Verdict.{verdict}
 use Rattle.unbounded.specs.Registers.{laid, readInto, cleared, pageOf, differs}
 use Rattle.unbounded.specs.Processes.{begin}
@@ -17,5 +18,5 @@ use Rattle.unbounded.specs.RunDays.{left, runDays}
 pub run-days-follow : map left runDays ≡ map (λ d. d .expected) runDays
 unfolding runDays turnsFrom ran Days.openedFor stepped step isPast refusal openedBy advance calledBy turnBy accept verdict laid
     readInto cleared pageOf differs begin position placeAt firstAfter secondAfter endAfter decision marksAfter afterRead foundBy
-    written turned mostReads unsound
+    written turned mostReads unsound listed
 run-days-follow = refl

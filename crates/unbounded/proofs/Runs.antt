@@ -5,6 +5,7 @@ use mathlib.Core.Path.{_≡_, sym, _∙_, subst}
 use mathlib.Core.List.{List, _++_}
 use mathlib.Core.Option.{some}
 use lib.ListN.{length, length-replicate}
+use Rattle.snapshot.specs.Values.{zeroValue}
 use Rattle.snapshot.specs.Tally.{Call, started, callOf, callOwes}
 use Rattle.snapshot.specs.Demand.{Among, Holds}
 use Rattle.snapshot.specs.Days as Days
@@ -42,13 +43,13 @@ module _ (n : ℕ) (z : 0 < n) (eight : n ≤ 8) where
   -- demand 3, with the waiting rule in it: what is heard of the list is what is heard of its single turns, and of these it holds
   pub demand3-with-runs : (qs : List Asked) →
       SameOneByOne (figure3 ascending) n (openedFor n) qs
-      × Holds (method ascending n) (openedFor n) (started n n 0) (singles n qs)
+      × Holds (method ascending n) (openedFor n) (started n n zeroValue) (singles n qs)
   demand3-with-runs qs = (since-opening qs, demand3 n z eight (singles n qs))
 
   -- the closing rule: whoever waits after a list with runs in it is answered by as many turns as its call owes, in runs or not
   pub closing-with-runs : (qs : List Asked) (d : ℕ) (c : Call) → Among n d →
       let M = method ascending n in
-      callOf (tallyAfter M (openedFor n) (started n n 0) (singles n qs)) d ≡ some c →
+      callOf (tallyAfter M (openedFor n) (started n n zeroValue) (singles n qs)) d ≡ some c →
       (ps : List Asked) → callOwes (mostTurns n) (some c) ≤ turnsIn M d (singles n ps) →
       Ends M d (stateAfterAll (figure3 ascending) (openedFor n) qs) (singles n ps)
   closing-with-runs qs d c m q ps l =
@@ -59,7 +60,7 @@ module _ (n : ℕ) (z : 0 < n) (eight : n ≤ 8) where
   pub all-work-ends-after-runs : (qs : List Asked) →
       let M = method ascending n in
       (ys : List Item) × TurnsTaken M (stateAfterAll (figure3 ascending) (openedFor n) qs) ys
-      × NobodyWaits M (tallyAfter M (openedFor n) (started n n 0) (singles n qs ++ ys))
+      × NobodyWaits M (tallyAfter M (openedFor n) (started n n zeroValue) (singles n qs ++ ys))
   all-work-ends-after-runs qs =
       let e = all-work-ends n z eight (singles n qs) in (
         e .0,

@@ -7,6 +7,7 @@ use mathlib.Core.Bool.{Bool}
 use mathlib.Core.List.{List}
 use mathlib.Core.Option.{Option, none, some}
 use lib.ListN.{length, take}
+use Rattle.snapshot.specs.declared.Value.{Value}
 use Rattle.snapshot.specs.Verdict.{Verdict, clean, lent, again, verdict}
 use Rattle.snapshot.specs.Marks.{isMoved, noneMoved, lends, Found}
 use Rattle.snapshot.proofs.Marks.{none-moved}
@@ -70,7 +71,7 @@ module _ (n : ℕ) (o : Order) (R : ℕ → ℕ → Register) where
 
       -- its own reading turn, numbered e + 1, leaves the collects a′ and c′, the end of the first and the marks: if it finds no
       -- page the scan goes on, and if it does the page is good
-      abbrev pub Scanned : (a′ c′ : List Register) (end′ : ℕ) (ms′ : List Bool) → Option (Found ℕ) → Type 0
+      abbrev pub Scanned : (a′ c′ : List Register) (end′ : ℕ) (ms′ : List Bool) → Option (Found Value) → Type 0
       Scanned a′ c′ end′ ms′ none = Scanning i s a′ c′ end′ ms′ (t + 1) (suc e)
       Scanned a′ c′ end′ ms′ (some f) = Good (pageIn (trace R) n) s e (f .words) (f .instant)
 

@@ -1,5 +1,5 @@
 -- A double collect of Figure 3 over the history of the registers: what its reads leave, and that its end tells who was written.
--- R j t is register j at instant t, with n words of view.
+-- R j t is register j at instant t, with n values of view.
 use Prim.Native.Nat.{ℕ, suc, _+_, _*_, _≤_, _<_}
 use native.Mathlib.Omega.{arith}
 use native.Mathlib.Decide.{ℕ-discrete}
@@ -8,6 +8,7 @@ use mathlib.Core.Logic.{_⊎_, inl, inr, by-cases, _≢_}
 use mathlib.Core.Bool.{true, false}
 use mathlib.Core.List.{List}
 use lib.ListN.{length, getD, take}
+use Rattle.snapshot.specs.declared.Value.{Value}
 use Rattle.snapshot.proofs.Traces.{Trace, History}
 use Rattle.snapshot.proofs.Collects.{Held, held-later, held-same, Collected}
 use Rattle.unbounded.specs.declared.Register.{Register}
@@ -30,10 +31,11 @@ abbrev pub trace : (ℕ → ℕ → Register) → Trace
 trace R =
     record {
       Register = Register;
-      Value = ℕ;
+      Value = Value;
       value = value;
       view = λ r. r .view;
       at = λ r. r .at;
+      last = λ r. r .value .last;
       stood = R;
       writes = λ j t. R j t .seq;
       Made = λ j u t. Unit {0};

@@ -9,6 +9,8 @@ use mathlib.Core.List.{List}
 use mathlib.Core.Option.{Option, none, some}
 use lib.ListN.{take}
 use Rattle.snapshot.specs.Tally.{scan, Call}
+use Rattle.snapshot.specs.declared.Value.{Value}
+use Rattle.snapshot.specs.Values.{stored}
 use Rattle.snapshot.specs.Days.{State}
 use Rattle.snapshot.proofs.Views.{Good, good-later}
 use Rattle.snapshot.proofs.Traces.{History, history-stays, history-writes}
@@ -24,14 +26,14 @@ use Rattle.unbounded.proofs.Scans.{trace}
 use Rattle.unbounded.proofs.Scanning.{Scanning, scanning-waits}
 
 module _ (n : ℕ) (o : Order) (H : ℕ → State Process) where
-  -- register j at instant t, with n words of view
+  -- register j at instant t, with n values of view
   abbrev pub registerAt : (j t : ℕ) → Register
   registerAt j t = trimmed n (processAt (figure3 o) H j t .register)
 
   abbrev records : (i t : ℕ) → Process
   records i t = processAt (figure3 o) H i t
 
-  abbrev pages : ℕ → List ℕ
+  abbrev pages : ℕ → List Value
   pages = pageAt (figure3 o) n H
 
   -- what holds of the instants up to e
@@ -105,19 +107,19 @@ module _ (n : ℕ) (o : Order) (H : ℕ → State Process) where
       laws-stay j b = register-stays j b (registers-stay j)
 
     -- the writing turn of an update called at instant s, with a good page
-    module _ (s w at : ℕ) (view : List ℕ) (good : Good pages s e view at)
+    module _ (s w at : ℕ) (view : List Value) (good : Good pages s e view at)
         (own : registerAt i s .seq ≡ registerAt i e .seq)
-        (wrote : trimmed n (p .register) ≡ record { word = w; seq = registerAt i e .seq + 1; view = view; at = at }) where
+        (wrote : trimmed n (p .register) ≡ record { value = stored (suc e) w; seq = registerAt i e .seq + 1; view = view; at = at }) where
       pub laws-write : Laws (suc e)
       laws-write j b =
           by-cases (ℕ-discrete j i) (λ x. subst (λ k. History (trace registerAt) n k (suc e)) (sym x) own-history)
           (λ x. register-stays j b (ap (λ q. trimmed n (q .register)) (E .other j x)))
         where
-          now-holds : registerAt i (suc e) ≡ record { word = w; seq = registerAt i e .seq + 1; view = view; at = at }
+          now-holds : registerAt i (suc e) ≡ record { value = stored (suc e) w; seq = registerAt i e .seq + 1; view = view; at = at }
           now-holds = ap (λ q. trimmed n (q .register)) (E .own) ∙ wrote
 
           own-history : History (trace registerAt) n i (suc e)
           own-history =
               history-writes (trace registerAt) n i e (L i (E .inside)) s
               (subst (λ r. Good pages s e (r .view) (r .at)) (sym now-holds) good) own
-              (ap (λ r. r .seq) now-holds ∙ add-one (registerAt i e .seq)) (λ u l. tt)
+              (ap (λ r. r .seq) now-holds ∙ add-one (registerAt i e .seq)) (ap (λ r. r .value .last) now-holds) (λ u l. tt)

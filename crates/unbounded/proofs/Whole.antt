@@ -1,4 +1,4 @@
--- "A collect has eight rows and a view eight words": calls and turns keep it so, and a page that a turn finds has n words.
+-- "A collect has eight rows and a view eight words": calls and turns keep it so, and a page that a turn finds has n values.
 use Prim.Native.Nat.{ℕ, _+_, _-_, _*_, _≤_, _<_}
 use native.Mathlib.Omega.{arith}
 use native.Mathlib.Decide.{ℕ-discrete, decLt}
@@ -11,6 +11,8 @@ use lib.ListN.{length, getD, replicate, length-map, getD-replicate}
 use lib.Seq.{getD-set-same, length-take-le}
 use lib.Dec.{eqb, ltb}
 use borrow.Author.Tests.{ltb-false}
+use Rattle.snapshot.specs.declared.Value.{Value}
+use Rattle.snapshot.specs.Values.{zeroValue, stored, pagePlaces, listed}
 use Rattle.snapshot.specs.Lists.{over}
 use Rattle.snapshot.specs.Marks.{lends, Found}
 use Rattle.snapshot.specs.Verdict.{Verdict, clean, lent, again, verdict}
@@ -18,6 +20,7 @@ use Rattle.snapshot.specs.Days as Days
 use Rattle.snapshot.specs.Tally.{Job}
 use Rattle.snapshot.specs.Days.{State, Item, turnOf, refusal, processOf, readFrom, turnBy, accept}
 use Rattle.snapshot.specs.declared.Refusal.{Refusal}
+use Rattle.snapshot.proofs.Values.{length-listed}
 use Rattle.snapshot.proofs.Lists.{length-over, getD-over, getD-over-past, getD-map-below}
 use Rattle.snapshot.proofs.DoubleCollect.{Ends, lender, verdict-ends}
 use Rattle.snapshot.proofs.Admitted.{admitted-turn}
@@ -36,7 +39,7 @@ use Rattle.unbounded.proofs.Places.{page-of-long, length-read-into, rea
 use Rattle.unbounded.proofs.Reading.{position-low, place-below, length-cleared}
 use Rattle.unbounded.proofs.Scans.{Permutes}
 
--- a collect of eight registers, each with a view of eight words
+-- a collect of eight registers, each with a view of eight values
 pub record WholeCollect (rs : List Register) : Type 0 where
   pub places : length rs ≡ 8
   pub views : (i : ℕ) → i < 8 → length (getD rs i noRegister .view) ≡ 8
@@ -108,9 +111,9 @@ module _ (n : ℕ) (eight : n ≤ 8) where
           go true = c
           go false = whole-read (placeAt n pos)
 
--- ---- a page that was found has n words
+-- ---- a page that was found has n values
 
-abbrev pub Full : ℕ → Option (Found ℕ) → Type 0
+abbrev pub Full : ℕ → Option (Found Value) → Type 0
 Full n none = Unit {0}
 Full n (some f) = n ≤ length (f .words)
 
@@ -145,7 +148,7 @@ module _ (n : ℕ) (eight : n ≤ 8) (p : Process) (w : Whole p) where
   whole-emptied r k q =
       record {
         register = q;
-        view = length-over-eight n eight (replicate 8 0) (p .view) (omega arith) (w .view);
+        view = length-over-eight n eight (replicate 8 zeroValue) (p .view) (omega arith) (w .view);
         first = whole-cleared n eight (p .first) (w .first);
         second = whole-cleared n eight (p .second) (w .second);
       }
@@ -154,10 +157,10 @@ module _ (n : ℕ) (eight : n ≤ 8) (p : Process) (w : Whole p) where
   unfolding begin
   whole-begin k = whole-emptied (p .register) k (w .register)
 
-  whole-written : (x at : ℕ) → length (written n x at p .view) ≡ 8
+  whole-written : (now x at : ℕ) → length (written n now x at p .view) ≡ 8
   unfolding written
-  whole-written x at =
-      laid-eight n eight (record { word = x; seq = p .register .seq + 1; view = p .view; at = at }) (p .register)
+  whole-written now x at =
+      laid-eight n eight (record { value = stored now x; seq = p .register .seq + 1; view = p .view; at = at }) (p .register)
       (omega (arith, w .view)) (w .register)
 
   module _ (o : Order) (P : Permutes n o) (now : ℕ) (r : Register) where
@@ -172,7 +175,7 @@ module _ (n : ℕ) (eight : n ≤ 8) (p : Process) (w : Whole p) where
         omega (arith, whole-second n eight (p .second) (w .second) r l pos .views (o .place j) (omega arith)))
         (decision o n pos a b (p .moved)) (decision-below o n pos a b (p .moved))
 
-    whole-after-read : n ≤ length (r .view) → (pos : ℕ) (k : Task) (v : List ℕ) → length v ≡ 8 →
+    whole-after-read : n ≤ length (r .view) → (pos : ℕ) (k : Task) (v : List Value) → length v ≡ 8 →
         Whole (afterRead o n now pos r p k v)
     unfolding afterRead
     whole-after-read l pos k v q =
@@ -185,11 +188,11 @@ module _ (n : ℕ) (eight : n ≤ 8) (p : Process) (w : Whole p) where
 
     -- a turn that reads register r, if it reads one
     module _ (page : List ℕ) where
-      scan-whole : n ≤ length (r .view) → (t : ℕ) (f : Option (Found ℕ)) → Whole (scanTurn o n now r page p t f .state)
+      scan-whole : n ≤ length (r .view) → (t : ℕ) (f : Option (Found Value)) → Whole (scanTurn o n now r page p t f .state)
       scan-whole l t none = whole-after-read l (position n t) (Scan (t + 1)) (p .view) (w .view)
       scan-whole l t (some f) = whole-begin Idle
 
-      update-whole : n ≤ length (r .view) → (x t : ℕ) (f : Option (Found ℕ)) → Full n f →
+      update-whole : n ≤ length (r .view) → (x t : ℕ) (f : Option (Found Value)) → Full n f →
           Whole (updateTurn o n now r page p x t f .state)
       update-whole l x t none h = whole-after-read l (position n t) (Update x (t + 1)) (p .view) (w .view)
       update-whole l x t (some f) h =
@@ -207,7 +210,7 @@ module _ (n : ℕ) (eight : n ≤ 8) (p : Process) (w : Whole p) where
           go (Update x t) l =
               let m = l (o .register (placeAt n (position n t))) refl in
               update-whole m x t (foundBy o n now (position n t) r p) (found-by-full m (position n t))
-          go (Ready x at t) l = whole-emptied (written n x at p) Idle (whole-written x at)
+          go (Ready x at t) l = whole-emptied (written n now x at p) Idle (whole-written now x at)
 
 zero-whole : Whole zeroProcess
 zero-whole =
@@ -257,16 +260,18 @@ module _ (o : Order) (n : ℕ) (P : Permutes n o) (z : 0 < n) where
 
   -- ---- a turn leaves its page list as long as it was
 
-  turned-long : (now : ℕ) (r : Register) (page : List ℕ) (p : Process) → n ≤ 8 → Whole p → n ≤ length page →
+  turned-long : (now : ℕ) (r : Register) (page : List ℕ) (p : Process) → n ≤ 8 → Whole p → pagePlaces n ≤ length page →
       ((j : ℕ) → reads o n (p .task) ≡ some j → n ≤ length (r .view)) → length (turned o n now r page p .page) ≡ length page
   unfolding turned
   turned-long now r page p l w m = go (p .task)
     where
-      scan-long : (t : ℕ) (f : Option (Found ℕ)) → Full n f → length (scanTurn o n now r page p t f .page) ≡ length page
+      scan-long : (t : ℕ) (f : Option (Found Value)) → Full n f → length (scanTurn o n now r page p t f .page) ≡ length page
       scan-long t none h = refl
-      scan-long t (some f) h = length-over n (f .words) page (length-take-le n (f .words) h) m
+      scan-long t (some f) h =
+          length-over (pagePlaces n) (listed (f .words)) page
+          (length-take-le (pagePlaces n) (listed (f .words)) (omega (arith, length-listed (f .words)))) m
 
-      update-long : (x t : ℕ) (f : Option (Found ℕ)) → length (updateTurn o n now r page p x t f .page) ≡ length page
+      update-long : (x t : ℕ) (f : Option (Found Value)) → length (updateTurn o n now r page p x t f .page) ≡ length page
       update-long x t none = refl
       update-long x t (some f) = refl
 
@@ -288,7 +293,7 @@ module _ (o : Order) (n : ℕ) (P : Permutes n o) (z : 0 < n) where
       let p = processOf (figure3 o) s d in
       let read : ℕ → Process = λ k. readFrom (figure3 o) (s .table) (reads o k (p .task)) in
       let among = a .suited .among in
-      let room = ltb-false (length page) (s .day .count) (a .suited .long) in
+      let room = ltb-false (length page) (pagePlaces (s .day .count)) (a .suited .long) in
       let small : n ≤ 8 = subst (λ k. k ≤ 8) c (a .suited .small) in
       subst (λ k. length (turned o k (s .day .event + 1) (read k .register) page p .page) ≡ length page) (sym c)
       (turned-long (s .day .event + 1) (read n .register) page p small (g .kept (d - 1) (omega (arith, among, c)))

@@ -3,6 +3,8 @@ use Prim.Native.Nat.{ℕ, _+_, _*_}
 use mathlib.Core.Bool.{Bool, false, cond, _||_}
 use lib.Dec.{leb, ltb}
 use Rattle.snapshot.specs.Refusals.{outside}
+use Rattle.snapshot.specs.declared.Value.{Value}
+use Rattle.snapshot.specs.Values.{stored, pagePlaces, valuesIn}
 use Rattle.snapshot.specs.Tally.{Job, scan, update}
 use Rattle.snapshot.specs.Demand.{Method, Result}
 use Rattle.snapshot.specs.Days as Days
@@ -43,9 +45,11 @@ overdue most (Scan t) = leb most t
 overdue most (Update w t) = leb most t
 overdue most (Ready w at t) = ltb most t
 
--- "the desk's own row has a seq or at above the event number", or its task is overdue (refusal 11)
+-- "the desk's own row has a seq or at above the event number", also "a row's own such number, those in its view aside" (K6), or its
+-- task is overdue (refusal 11)
 unfoldable pub unsound : (most event : ℕ) → Process → Bool
-unsound most e p = ltb e (p .register .seq) || (ltb e (p .register .at) || overdue most (p .task))
+unsound most e p =
+    ltb e (p .register .seq) || (ltb e (p .register .at) || (ltb e (p .register .value .last) || overdue most (p .task)))
 
 -- ---- the machine
 
@@ -60,11 +64,11 @@ figure3 o =
       greatest = λ n p. greatest (mostReads n) (p .task);
       turnsHad = λ p. turnsOf (p .task);
       unsound = λ n e p. unsound (mostReads n) e p;
-      Value = ℕ;
+      Value = Value;
       value = λ p. value (p .register);
-      stored = λ e w. w;
-      pageLength = λ n. n;
-      shown = λ n ws. ws;
+      stored = stored;
+      pageLength = pagePlaces;
+      shown = valuesIn;
       called = λ n j p. begin n (taskOf j 0) p;
       reads = λ n p. reads o n (p .task);
       turned = λ n i now other page p. turned o n now (other .register) page p;

@@ -8,6 +8,8 @@ use mathlib.Core.Option.{Option, none, some}
 use lib.ListN.{getD, replicate}
 use lib.Dec.{eqb}
 use Rattle.snapshot.specs.Lists.{over, each, everyFrom}
+use Rattle.snapshot.specs.declared.Value.{Value}
+use Rattle.snapshot.specs.Values.{zeroValue, stored, pagePlaces, listed}
 use Rattle.snapshot.specs.Marks.{isMoved}
 use Rattle.snapshot.specs.Demand.{Result}
 use Rattle.snapshot.specs.Days as Days
@@ -24,9 +26,10 @@ use Rattle.unbounded.specs.Days.{figure3, openedFor}
 
 -- ---- what the figure works on
 
--- a register's fields are "(data, seq, view) triples"; document 01 adds at, the instant of the view. Here a view has n words
+-- a register's fields are "(data, seq, view) triples"; document 01 adds at, the instant of the view. Data is a value: a word with the
+-- number of its writing (K6). Here a view has n values
 abbrev pub initial : ℕ → Register
-initial n = record { word = 0; seq = 0; view = replicate n 0; at = 0 }
+initial n = record { value = zeroValue; seq = 0; view = replicate n zeroValue; at = 0 }
 
 -- an array indexed by process, from 0
 abbrev pub Array : Type 0 → Type 0
@@ -43,13 +46,13 @@ pub record Variables : Type 0 where
   pub b : Array Register
   pub ended : ℕ
 
--- what a procedure does next: read register j and go on with that turn's number and what the read returns; write its own register
--- and return; return the words, with the process that lent them, from 1, or 0, and their instant; `spent` is where a given number
--- of rounds of "while true" ends, so that no turn is there if they are enough
+-- what a procedure does next: read register j and go on with that turn's number and what the read returns; write its own register,
+-- by that turn's number, and return; return the values, with the process that lent them, from 1, or 0, and their instant; `spent` is
+-- where a given number of rounds of "while true" ends, so that no turn is there if they are enough
 pub data Procedure : Type 0 where
   read : Variables → (j : ℕ) → ((now : ℕ) → Register → Procedure) → Procedure
-  write : Variables → Register → Procedure
-  return : (lender at : ℕ) (words : List ℕ) → Procedure
+  write : Variables → ((now : ℕ) → Register) → Procedure
+  return : (lender at : ℕ) (values : List Value) → Procedure
   spent : Procedure
 
 -- ---- the figure
@@ -64,7 +67,7 @@ module _ (o : Order) where
 
 -- lines 6 to 10, for the k processes from j on
 unfoldable pub search : (k j : ℕ) → (a b : Array Register) (moved : Array ℕ) → (again : Array ℕ → Procedure) →
-    (finish : Array ℕ → (lender at : ℕ) → List ℕ → Procedure) → Procedure
+    (finish : Array ℕ → (lender at : ℕ) → List Value → Procedure) → Procedure
 search zero j a b moved again finish = again moved
 search (suc k) j a b moved again finish =
     -- 7: if a[j].seq ≠ b[j].seq then
@@ -77,8 +80,8 @@ search (suc k) j a b moved again finish =
     -- 10: else moved[j] := moved[j] + 1
     (search k (suc j) a b (assigned moved j (moved j + 1)) again finish))
 
--- scan, with what is done with the words that it returns, their lender and their instant
-module _ (o : Order) (n : ℕ) (finish : Variables → (lender at : ℕ) → List ℕ → Procedure) where
+-- scan, with what is done with the values that it returns, their lender and their instant
+module _ (o : Order) (n : ℕ) (finish : Variables → (lender at : ℕ) → List Value → Procedure) where
   -- line 1: while true do; as many rounds as are given
   unfoldable pub whileTrue : ℕ → (moved : Array ℕ) (a b : Array Register) (ended : ℕ) → Procedure
   whileTrue zero moved a b ended = spent
@@ -108,7 +111,8 @@ scanProcedure o n k = scanFor o n (λ v. return) k
 -- update, by a process whose register's seq is s: line 1, s[1..n] := scan; line 2, r := (data, r.seq + 1, s[1..n])
 abbrev pub updateProcedure : Order → (n k : ℕ) → (word s : ℕ) → Procedure
 updateProcedure o n k word s =
-    scanFor o n (λ v lender at words. write v (record { word = word; seq = s + 1; view = words; at = at })) k
+    scanFor o n
+    (λ v lender at values. write v (λ now. record { value = stored now word; seq = s + 1; view = values; at = at })) k
 
 -- ---- the turns of a process are a procedure, one access at a time
 
@@ -128,7 +132,7 @@ module _ (o : Order) (n : ℕ) where
   abbrev pub Standing : Procedure → (t : ℕ) → Process → Type 0
   Standing (read v j next) t p = Remembers v p × (turnsOf (p .task) ≡ t) × (reads o n (p .task) ≡ some j)
   Standing (write v w) t p = Remembers v p × (turnsOf (p .task) ≡ t) × (reads o n (p .task) ≡ none)
-  Standing (return lender at words) t p = Unit {0}
+  Standing (return lender at values) t p = Unit {0}
   Standing spent t p = ⊥
 
   -- a turn of p, its t-th, was lent a page list and gave x, and the procedure goes on as q: only where q returns is it answered,
@@ -138,8 +142,10 @@ module _ (o : Order) (n : ℕ) where
       (x .answer ≡ Read) × (x .page ≡ page) × (x .state .register ≡ p .register) × N (x .state)
   After N t p page x (write v r) =
       (x .answer ≡ Read) × (x .page ≡ page) × (x .state .register ≡ p .register) × N (x .state)
-  After N t p page x (return lender at words) =
-      (x .answer ≡ Page lender at t) × (x .page ≡ over n words page) × (x .state ≡ begin n Idle p)
+  After N t p page x (return lender at values) =
+      (x .answer ≡ Page lender at t)
+      × (x .page ≡ over (pagePlaces n) (listed values) page)
+      × (x .state ≡ begin n Idle p)
   After N t p page x spent = N (x .state)
 
   -- the writing turn of p, its t-th, was lent a page list and gave x: it wrote w, and left p idle with nothing collected
@@ -182,9 +188,9 @@ module _ (o : Order) (n d : ℕ) where
   Follows Rest (write v w) t s x =
       let p = processOf (figure3 o) s d in
       let r = Days.stepped (figure3 o) s x in
-      cond (isTurn d x (refusal (figure3 o) s x)) (Wrote o n w (suc t) p (pageLent x) (ownOf o d r))
+      cond (isTurn d x (refusal (figure3 o) s x)) (Wrote o n (w (s .day .event + 1)) (suc t) p (pageLent x) (ownOf o d r))
       ((ownOf o d r .state ≡ p) × Rest (write v w) t (r .state))
-  Follows Rest (return lender at words) t s x = Unit {0}
+  Follows Rest (return lender at values) t s x = Unit {0}
   Follows Rest spent t s x = Unit {0}
 
   -- from state s on, the accepted turns of process d are the procedure, with anything else in between

@@ -4,6 +4,7 @@ use mathlib.Core.Bool.{Bool, true, false}
 use mathlib.Core.List.{[]}
 use lib.ListN.{replicate}
 use Rattle.snapshot.specs.Lists.{over}
+use Rattle.snapshot.specs.Values.{zeroValue}
 use Rattle.snapshot.specs.Marks.{noneMoved}
 use Rattle.snapshot.specs.Tally.{Job, scan, update}
 use Rattle.unbounded.specs.declared.Register.{Register}
@@ -45,7 +46,7 @@ zeroProcess =
       first = replicate 8 zeroRegister;
       second = replicate 8 zeroRegister;
       «first_end» = 0;
-      view = replicate 8 0;
+      view = replicate 8 zeroValue;
       moved = noneMoved;
     }
 
@@ -59,7 +60,7 @@ emptied n r k p =
       first = cleared n (p .first);
       second = cleared n (p .second);
       «first_end» = 0;
-      view = over n (replicate 8 0) (p .view);
+      view = over n (replicate 8 zeroValue) (p .view);
       moved = noneMoved;
     }
 

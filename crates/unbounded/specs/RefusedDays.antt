@@ -3,8 +3,11 @@
 use Prim.Native.Nat.{ℕ, _+_, _-_, _*_}
 use mathlib.Core.List.{List, [], _∷_, _++_}
 use lib.ListN.{replicate}
+use Rattle.snapshot.specs.declared.Value.{Value}
+use Rattle.snapshot.specs.Marks.{noneMoved}
 use Rattle.snapshot.specs.Days.{State, Item, openFor, updateCall, scanCall, turnOf}
 use Rattle.snapshot.specs.Replies.{Reply, refused, opened, called, read, page, written, replies}
+use Rattle.unbounded.specs.declared.Register.{Register}
 use Rattle.unbounded.specs.declared.Process.{Process}
 use Rattle.unbounded.specs.declared.Task.{Task}
 use Rattle.unbounded.specs.declared.Task.the-variants.{Idle, Scan, Update, Ready}
@@ -16,10 +19,10 @@ use Rattle.unbounded.specs.Days.{method}
 pub record RefusedDay : Type 0 where
   pub state : State Process
   pub items : List Item
-  pub expected : List (Reply ℕ)
+  pub expected : List (Reply Value)
 
 -- what the definitions reply on it
-abbrev pub replied : RefusedDay → List (Reply ℕ)
+abbrev pub replied : RefusedDay → List (Reply Value)
 replied x = replies (method ascending (x .state .day .count)) (x .state) (x .items)
 
 -- ---- days and tables
@@ -38,24 +41,33 @@ firstIs n p = p ∷ idleTable (n - 1)
 abbrev lastIs : ℕ → Process → List Process
 lastIs n p = idleTable (n - 1) ++ p ∷ []
 
--- a process with this task, and one whose register was written so often and has a view of that instant
+-- a process with this task; and one whose register was written so often, last by that event, and has a view of that instant, while
+-- seen is every number of a last writing beside it: in its view, in both collects and in the view that is kept
 abbrev doing : Task → Process
 doing k = emptied 8 zeroRegister k zeroProcess
 
-abbrev wrote : (seq at : ℕ) → Process
-wrote seq at = emptied 8 (record { word = 7; seq = seq; view = replicate 8 0; at = at }) Idle zeroProcess
+abbrev wrote : (seq at last seen : ℕ) → Task → Process
+wrote seq at last seen k =
+    let other : Value = record { word = 7; last = seen } in
+    let view = replicate 8 other in
+    let own : Register = record { value = record { word = 7; last = last }; seq = seq; view = view; at = at } in
+    let collect : List Register = replicate 8 (record { value = other; seq = seq; view = view; at = at }) in
+    record { register = own; task = k; first = collect; second = collect; «first_end» = 0; view = view; moved = noneMoved }
 
 -- ---- what is asked
 
-abbrev onDay : State Process → List Item → List (Reply ℕ) → RefusedDay
+abbrev onDay : State Process → List Item → List (Reply Value) → RefusedDay
 onDay s xs rs = record { state = s; items = xs; expected = rs }
 
 abbrev bothCalls : ℕ → List Item
 bothCalls d = scanCall d ∷ updateCall d 7 ∷ []
 
--- a turn of process d with a page list of n words
+-- a turn of process d with a page list of so many places; and of those that a page of n takes
+abbrev turnLent : (places d : ℕ) → Item
+turnLent places d = turnOf d (replicate places 9)
+
 abbrev turnWith : (n d : ℕ) → Item
-turnWith n d = turnOf d (replicate n 9)
+turnWith n d = turnLent (2 * n) d
 
 -- both calls of process d, its turn, or all three get number k
 abbrev callsGet : (k : ℕ) → State Process → ℕ → RefusedDay
@@ -72,10 +84,10 @@ abbrev accepted : State Process → ℕ → RefusedDay
 accepted s d = onDay s (scanCall d ∷ []) (called ∷ [])
 
 -- one item gets this reply; and an opening for k does
-abbrev itemGets : Reply ℕ → State Process → Item → RefusedDay
+abbrev itemGets : Reply Value → State Process → Item → RefusedDay
 itemGets r s x = onDay s (x ∷ []) (r ∷ [])
 
-abbrev openGets : Reply ℕ → State Process → ℕ → RefusedDay
+abbrev openGets : Reply Value → State Process → ℕ → RefusedDay
 openGets r s k = itemGets r s (openFor k)
 
 -- ---- each cause
@@ -133,7 +145,7 @@ threeWait = doing (Scan 100) ∷ doing (Update 7 5) ∷ doing (Ready 7 0 128) �
 abbrev caseI : List RefusedDay
 caseI =
     onDay (dayAt 1 65532 (idleTable 1)) (scanCall 1 ∷ turnWith 1 1 ∷ turnWith 1 1 ∷ bothCalls 1 ++ turnWith 1 1 ∷ [])
-    (called ∷ read ∷ page 0 65534 2 (0 ∷ []) ∷ refused 5 ∷ refused 5 ∷ refused 4 ∷ [])
+    (called ∷ read ∷ page 0 65534 2 (record { word = 0; last = 0 } ∷ []) ∷ refused 5 ∷ refused 5 ∷ refused 4 ∷ [])
     ∷ onDay (dayAt 1 65531 (idleTable 1))
     (updateCall 1 7 ∷ turnWith 1 1 ∷ turnWith 1 1 ∷ turnWith 1 1 ∷ bothCalls 1 ++ turnWith 1 1 ∷ [])
     (called ∷ read ∷ read ∷ written 3 ∷ refused 5 ∷ refused 5 ∷ refused 4 ∷ [])
@@ -143,14 +155,14 @@ abbrev dayFull : List RefusedDay
 dayFull =
     callLimits 1 2 0 1 (idleTable 1) ++ callLimits 8 128 0 8 (idleTable 8) ++ callLimits 8 128 (28 + 124 + 1) 8 threeWait ++ caseI
 
--- 6: "the desk table has not exactly n records, or, on a turn, the page list has fewer than n words"; "n = 2, page list of 1 word"
+-- 6: "the desk table has not exactly n records, or, on a turn, the page list has fewer than n words", by K6 fewer than 2n
 abbrev lentSize : List RefusedDay
 lentSize =
     openGets (refused 6) (dayAt 0 0 (idleTable 1)) 2
     ∷ openGets (refused 6) (dayAt 0 0 (idleTable 3)) 2
     ∷ allGet 6 (dayAt 2 0 (idleTable 1)) 1
     ∷ allGet 6 (dayAt 2 0 (idleTable 3)) 1
-    ∷ onDay (dayAt 2 0 (firstIs 2 (doing (Scan 0)))) (turnWith 1 1 ∷ turnWith 2 1 ∷ turnWith 3 1 ∷ [])
+    ∷ onDay (dayAt 2 0 (firstIs 2 (doing (Scan 0)))) (turnLent 3 1 ∷ turnLent 4 1 ∷ turnLent 5 1 ∷ [])
     (refused 6 ∷ read ∷ read ∷ [])
     ∷ []
 
@@ -177,9 +189,18 @@ dayLimits =
     ∷ allGet 11 (dayAt 2 70000 (idleTable 2)) 1
     ∷ []
 
--- "the desk's own row has a seq or at above the event number"
+-- "the desk's own row has a seq or at above the event number", also "a row's own such number, those in its view aside" (K6)
 abbrev registerLimits : List RefusedDay
-registerLimits = soundAccepted 2 5 (wrote 5 5) ++ unsoundGets11 2 5 (wrote 6 5) ++ unsoundGets11 2 5 (wrote 5 6)
+registerLimits =
+    soundAccepted 2 5 (wrote 5 5 5 6 Idle)
+    ++ soundAccepted 2 5 (wrote 0 0 5 6 Idle)
+    ++ soundAccepted 2 5 (wrote 5 5 0 6 Idle)
+    ++ unsoundGets11 2 5 (wrote 6 5 5 5 Idle)
+    ++ unsoundGets11 2 5 (wrote 5 6 5 5 Idle)
+    ++ unsoundGets11 2 5 (wrote 5 5 6 5 Idle)
+    ++ unsoundGets11 2 5 (wrote 5 5 6 5 (Scan 0))
+    ++ unsoundGets11 2 5 (wrote 5 5 6 5 (Update 7 0))
+    ++ unsoundGets11 2 5 (wrote 5 5 6 5 (Ready 7 0 0))
 
 -- "a task being read has had more than 2n²−1 turns, or an entry ready to write more than 2n²", most being 2n²
 abbrev turnLimits : (n most : ℕ) → List RefusedDay
@@ -193,7 +214,7 @@ turnLimits n most =
 
 -- "also when event number plus all turns owed exceeds 65,535": process 1 of this table waits, the table owes so much, and its turn,
 -- where there is an event for all that is owed, gets this reply: one below, at, and one above
-abbrev endLimits : (n owed : ℕ) → List Process → Reply ℕ → List RefusedDay
+abbrev endLimits : (n owed : ℕ) → List Process → Reply Value → List RefusedDay
 endLimits n owed ps r =
     let last = 65535 - owed in
     itemGets r (dayAt n (last - 1) ps) (turnWith n 1)
@@ -234,11 +255,11 @@ abbrev order6 : List RefusedDay
 order6 =
     allGet 6 (dayAt 2 70000 (idleTable 3)) 1
     ∷ allGet 6 (dayAt 9 0 (idleTable 8)) 1
-    ∷ onDay (dayAt 2 70000 (idleTable 2)) (turnWith 1 1 ∷ []) (refused 6 ∷ [])
+    ∷ onDay (dayAt 2 70000 (idleTable 2)) (turnLent 3 1 ∷ []) (refused 6 ∷ [])
     ∷ allGet 6 (dayAt 2 0 (idleTable 3)) 3
-    ∷ onDay (dayAt 2 0 (idleTable 2)) (turnWith 1 1 ∷ turnWith 1 3 ∷ []) (refused 6 ∷ refused 6 ∷ [])
+    ∷ onDay (dayAt 2 0 (idleTable 2)) (turnLent 3 1 ∷ turnLent 3 3 ∷ []) (refused 6 ∷ refused 6 ∷ [])
     ∷ allGet 6 (dayAt 2 65528 (firstIs 3 (doing (Scan 0)))) 1
-    ∷ itemGets (refused 6) (dayAt 2 65528 (firstIs 2 (doing (Scan 0)))) (turnWith 1 1)
+    ∷ itemGets (refused 6) (dayAt 2 65528 (firstIs 2 (doing (Scan 0)))) (turnLent 3 1)
     ∷ []
 
 -- 11 before 2, 3, 4 and 5
@@ -246,7 +267,7 @@ abbrev order11 : List RefusedDay
 order11 =
     allGet 11 (dayAt 2 70000 (idleTable 2)) 3
     ∷ callsGet 11 (dayAt 2 0 (firstIs 2 (doing (Scan 8)))) 1
-    ∷ turnGets 11 (dayAt 2 5 (firstIs 2 (wrote 6 5))) 1
+    ∷ turnGets 11 (dayAt 2 5 (firstIs 2 (wrote 6 5 5 5 Idle))) 1
     ∷ allGet 11 (dayAt 2 65535 (firstIs 2 (doing (Scan 8)))) 2
     ∷ allGet 11 (dayAt 2 65528 (firstIs 2 (doing (Scan 0)))) 0
     ∷ allGet 11 (dayAt 2 65528 (firstIs 2 (doing (Scan 0)))) 3

@@ -1,12 +1,13 @@
 // Figure 3, the unbounded single-writer method: the types of its registers and processes, and its limits.
+use snapshot::Value;
 ghost use mathlib.Core.Path.{_≡_};
 ghost use Rattle.unbounded.specs.Days.{readsUpTo8};
 
-// A register (document 01: a row): its word, how often it was written, and the page that its writer had read, with its instant.
+// A register (document 01: a row): its value, how often it was written, and the page that its writer had read, with its instant.
 pub struct Register {
-    pub word: u32,
+    pub value: Value,
     pub seq: u32,
-    pub view: [u32; 8],
+    pub view: [Value; 8],
     pub at: u32,
 }
 
@@ -27,7 +28,7 @@ pub struct Process {
     pub first: [Register; 8],
     pub second: [Register; 8],
     pub first_end: u32,
-    pub view: [u32; 8],
+    pub view: [Value; 8],
     pub moved: [bool; 8],
 }
 

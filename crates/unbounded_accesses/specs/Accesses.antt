@@ -5,6 +5,7 @@ use mathlib.Core.Bool.{Bool, true, false}
 use mathlib.Core.List.{List}
 use lib.ListN.{length, getD}
 use Rattle.snapshot.specs.declared.Day.{Day}
+use Rattle.snapshot.specs.Values.{pagePlaces}
 use Rattle.unbounded.specs.declared.Register.{Register}
 use Rattle.unbounded.specs.declared.Process.{Process}
 use Rattle.unbounded.specs.declared.Task.{Task}
@@ -60,4 +61,4 @@ registerIn a ps = getD ps (readsIn a) noProcess .register
 
 -- a page list has room for the page that an access may find
 abbrev pub RoomFor : Access → List ℕ → Type 0
-RoomFor a page = a .n ≤ length page
+RoomFor a page = pagePlaces (a .n) ≤ length page

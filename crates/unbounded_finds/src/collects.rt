@@ -1,10 +1,12 @@
-// Registers, and loops over the collects of a record: the first n places compared, marked, and their words copied.
+// Registers, and loops over the collects of a record: the first n places compared, marked, and their values copied.
+use snapshot::Value;
 use unbounded::Register;
-use words::over_words;
+use values::over_values;
 ghost use mathlib.Core.Path.{_≡_};
 ghost use Prim.Native.Nat.{_≤_};
 ghost use lib.ListN.{replicate};
 ghost use Rattle.snapshot.specs.Lists.{over, firstBelow};
+ghost use Rattle.snapshot.specs.Values.{zeroValue};
 ghost use Rattle.snapshot.specs.Marks.{lends, markFrom};
 ghost use Rattle.unbounded.specs.Registers.{ascending, zeroRegister, laid, pageOf, differs};
 
@@ -12,24 +14,26 @@ ghost use Rattle.unbounded.specs.Registers.{ascending, zeroRegister, laid, page
 pub fn no_register() -> Register
     ensures { λ r. ⌜ r ≡ zeroRegister ⌝ }
 {
+    let v = Value { word: 0, last: 0 };
     Register {
-        word: 0,
+        value: v,
         seq: 0,
-        view: [0; 8],
+        view: [v; 8],
         at: 0,
     }
 }
 
-// Register r laid where old stood: the words past n of old's view stay.
+// Register r laid where old stood: the values past n of old's view stay.
 pub fn lay(n: usize, r: Register, old: Register) -> Register
     requires { ⌜ n ≤ 8 ⌝ }
     ensures { λ x. ⌜ x ≡ laid n r old ⌝ }
 {
     let v = r.view;
     let w = old.view;
-    let view = over_words(n, v, w);
+    let view = over_values(n, v, w);
+    let value = r.value;
     Register {
-        word: r.word,
+        value,
         seq: r.seq,
         view,
         at: r.at,
@@ -84,15 +88,18 @@ pub fn mark(k: usize, a: [Register; 8], b: [Register; 8], ms: [bool; 8]) -> [boo
     x
 }
 
-// The words of the first n registers of a collect, the other places 0.
-pub fn words(n: usize, rs: [Register; 8]) -> [u32; 8]
+// The values of the first n registers of a collect, the other places 0.
+pub fn values(n: usize, rs: [Register; 8]) -> [Value; 8]
     requires { ⌜ n ≤ 8 ⌝ }
-    ensures { λ x. ⌜ x ≡ over n (pageOf ascending n rs) (replicate 8 0) ⌝ }
+    ensures { λ x. ⌜ x ≡ over n (pageOf ascending n rs) (replicate 8 zeroValue) ⌝ }
 {
-    let mut x = [0; 8];
+    let none = Value { word: 0, last: 0 };
+    let mut x = [none; 8];
     let mut j = 0;
     while j < n {
-        x[j] = rs[j].word;
+        let r = rs[j];
+        let v = r.value;
+        x[j] = v;
         j += 1;
     }
     x

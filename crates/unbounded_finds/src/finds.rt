@@ -1,11 +1,12 @@
 // What a turn finds, and the page list after it.
 use crate::collects;
+use snapshot::Value;
 use unbounded::Process;
 use unbounded::Register;
 use unbounded::Task;
 use unbounded_accesses::Access;
 use unbounded_tasks::Find;
-use words::lay_words;
+use values::lay_values;
 ghost use mathlib.Core.Path.{_≡_};
 ghost use mathlib.Core.Option.{some};
 ghost use Prim.Native.Nat.{_≤_};
@@ -19,10 +20,11 @@ ghost use Rattle.unbounded_finds.specs.Finds.{nothingFound, decisionFind
 fn nothing(k: usize) -> Find
     ensures { λ f. ⌜ f ≡ nothingFound k ⌝ }
 {
+    let none = Value { word: 0, last: 0 };
     Find {
         found: false,
         passed: k,
-        words: [0; 8],
+        words: [none; 8],
         at: 0,
         lender: 0,
     }
@@ -44,7 +46,7 @@ fn decide(n: usize, end: u32, a: [Register; 8], b: [Register; 8], moved: [bool; 
         return Find {
             found: true,
             passed: 0,
-            words: collects::words(n, b),
+            words: collects::values(n, b),
             at: end,
             lender: 0,
         };
@@ -84,7 +86,7 @@ pub fn find_page(a: Access, r: Register, p: Process) -> Find
     decide(n, p.first_end, first, second, moved)
 }
 
-// The words of a page that a scan found, laid over the first n of the page list; any other turn leaves the list.
+// The values of a page that a scan found, laid over the page list; any other turn leaves the list.
 pub fn lay_page(a: Access, k: Task, f: Find, page: &mut [u32])
     requires { ⌜ Sound a × RoomFor a (now page) ⌝ }
     ensures { λ r. ⌜ now (page .exit) ≡ pageBy a f k (now (page .entry)) ⌝ }
@@ -94,7 +96,7 @@ pub fn lay_page(a: Access, k: Task, f: Find, page: &mut [u32])
     match k {
         Task::Scan { turns: _ } => {
             if f.found {
-                lay_words(n, words, page)
+                lay_values(n, words, page)
             }
         }
         Task::Idle => {}

@@ -60,12 +60,14 @@ module _ (s : State Process) (some : 0 < s .day .count) (few : s .day .count ≤
   record-looked e b p =
       let a = ltb (s .day .event) (p .register .seq) in
       let c = ltb (s .day .event) (p .register .at) in
+      let l = ltb (s .day .event) (p .register .value .last) in
       let o = overdue most (p .task) in
-      let k = task-looked e (b || (a || c)) (p .task) in
+      let k = task-looked e (b || (a || (c || l))) (p .task) in
       record {
         end = k .end;
-        left = k .left ∙ ap (surveyWith (beforeBy most) (k .end)) (or-assoc b (a || c) o ∙ ap (λ x. b || x) (or-assoc a c o));
-        exact = λ q. k .exact (or-neither c o (or-neither a (c || o) q .1) .1);
+        left = k .left ∙ ap (surveyWith (beforeBy most) (k .end)) (or-assoc b (a || (c || l)) o
+            ∙ ap (λ x. b || x) (or-assoc a (c || l) o ∙ ap (λ x. a || x) (or-assoc c l o)));
+        exact = λ q. k .exact (or-neither l o (or-neither c (l || o) (or-neither a (c || (l || o)) q .1) .1) .1);
       }
 
   pub surveyed-table : Surveyed (figure3 ascending) s (foldl surveyedBy (surveyOf (s .day)) (s .table))
@@ -78,17 +80,18 @@ module _ (s : State Process) (some : 0 < s .day .count) (few : s .day .count ≤
 
 -- ---- the task of a record may be looked at before its register
 
-waits-first : (s : Survey) (seq at most more turns : ℕ) →
-    registerSeen (waitsBy s most more turns) seq at ≡ waitsBy (registerSeen s seq at) most more turns
+waits-first : (s : Survey) (seq at last most more turns : ℕ) →
+    registerSeen (waitsBy s most more turns) seq at last ≡ waitsBy (registerSeen s seq at last) most more turns
 unfolding registerSeen
-waits-first s seq at most more turns = bool-cases (leb most turns) (λ q. rw q) (λ q. rw q)
+waits-first s seq at last most more turns = bool-cases (leb most turns) (λ q. rw q) (λ q. rw q)
 
-pub task-first : (s : Survey) (k : Task) (seq at : ℕ) → registerSeen (taskSeen s k) seq at ≡ taskSeen (registerSeen s seq at) k
+pub task-first : (s : Survey) (k : Task) (seq at last : ℕ) →
+    registerSeen (taskSeen s k) seq at last ≡ taskSeen (registerSeen s seq at last) k
 unfolding taskSeen registerSeen
-task-first s Idle seq at = refl
-task-first s (Scan t) seq at = waits-first s seq at (s .«scan_most») 0 t
-task-first s (Update w t) seq at = waits-first s seq at (s .«scan_most») (s .«update_more») t
-task-first s (Ready w u t) seq at = waits-first s seq at (s .«scan_most» + s .«update_more») 0 t
+task-first s Idle seq at last = refl
+task-first s (Scan t) seq at last = waits-first s seq at last (s .«scan_most») 0 t
+task-first s (Update w t) seq at last = waits-first s seq at last (s .«scan_most») (s .«update_more») t
+task-first s (Ready w u t) seq at last = waits-first s seq at last (s .«scan_most» + s .«update_more») 0 t
 
 -- ---- a record that can have arisen has room for one turn and one write more
 
@@ -102,7 +105,7 @@ pub sound-has-room : (n e : ℕ) (p : Process) → n ≤ 8 → e ≤ 65535 → u
     (p .register .seq < 4294967295) × (turnsOf (p .task) < 4294967295)
 unfolding unsound
 sound-has-room n e p l m h =
-    let late = or-neither (ltb e (p .register .seq)) (ltb e (p .register .at) || overdue (mostReads n) (p .task)) h in
+    let late = or-neither (ltb e (p .register .seq)) (ltb e (p .register .at) || (ltb e (p .register .value .last) || overdue (mostReads n) (p .task))) h in
     let seq = ltb-false e (p .register .seq) (late .0) in
     let turns = few-turns (mostReads n) (p .task) (sound-due (mostReads n) e p h) in
     let few = few-reads n l in

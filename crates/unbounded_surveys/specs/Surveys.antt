@@ -21,9 +21,10 @@ surveyOf day =
       bad = false;
     }
 
--- once a register is looked at too: "the desk's own row has a seq or at above the event number"
-unfoldable pub registerSeen : Survey → (seq at : ℕ) → Survey
-registerSeen s seq at = surveyWith s (s .end) (s .bad || (ltb (s .event) seq || ltb (s .event) at))
+-- once a register is looked at too: "the desk's own row has a seq or at above the event number", also the number of its last writing
+unfoldable pub registerSeen : Survey → (seq at last : ℕ) → Survey
+registerSeen s seq at last =
+    surveyWith s (s .end) (s .bad || (ltb (s .event) seq || (ltb (s .event) at || ltb (s .event) last)))
 
 -- once a task is looked at too: "a task being read has had more than 2n²−1 turns, or an entry ready to write more than 2n²", or what it
 -- owes, "its greatest number of turns (2n² for a page, 2n²+1 for an entry) less the turns it has had"
@@ -35,4 +36,4 @@ taskSeen s (Ready w at t) = waitsBy s (s .«scan_most» + s .«update_more») 0 
 
 -- once a record is looked at too: "if in any of the n records .."
 unfoldable pub surveyedBy : Survey → Process → Survey
-surveyedBy s p = taskSeen (registerSeen s (p .register .seq) (p .register .at)) (p .task)
+surveyedBy s p = taskSeen (registerSeen s (p .register .seq) (p .register .at) (p .register .value .last)) (p .task)

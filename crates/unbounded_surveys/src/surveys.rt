@@ -27,25 +27,30 @@ pub fn surveyed(s: Survey, p: Process) -> Survey
     ensures { λ t. ⌜ t ≡ surveyedBy s p ⌝ }
 {
     let k = p.task;
-    register_seen(task_seen(s, k), p.register.seq, p.register.at)
+    register_seen(
+        task_seen(s, k),
+        p.register.seq,
+        p.register.at,
+        p.register.value.last,
+    )
 }
 
-// Once a register with this seq and at is looked at.
-pub fn register_seen(s: Survey, seq: u32, at: u32) -> Survey
-    ensures { λ t. ⌜ t ≡ registerSeen s seq at ⌝ }
+// Once a register with this seq and at, last written by that event, is looked at.
+pub fn register_seen(s: Survey, seq: u32, at: u32, last: u32) -> Survey
+    ensures { λ t. ⌜ t ≡ registerSeen s seq at last ⌝ }
 {
     Survey {
         scan_most: s.scan_most,
         update_more: s.update_more,
         event: s.event,
         end: s.end,
-        bad: bad_register(s, seq, at),
+        bad: bad_register(s, seq, at, last),
     }
 }
 
 // Whether something before was bad, or a register cannot have arisen.
-fn bad_register(s: Survey, seq: u32, at: u32) -> bool
-    ensures { λ b. ⌜ b ≡ (s .bad || (ltb (s .event) seq || ltb (s .event) at)) ⌝ }
+fn bad_register(s: Survey, seq: u32, at: u32, last: u32) -> bool
+    ensures { λ b. ⌜ b ≡ (s .bad || (ltb (s .event) seq || (ltb (s .event) at || ltb (s .event) last))) ⌝ }
 {
     if s.bad {
         return true;
@@ -53,7 +58,10 @@ fn bad_register(s: Survey, seq: u32, at: u32) -> bool
     if s.event < seq {
         return true;
     }
-    s.event < at
+    if s.event < at {
+        return true;
+    }
+    s.event < last
 }
 
 // Once a task is looked at. An update that is still being read owes its writing turn after its reads.

@@ -5,23 +5,26 @@ use mathlib.Core.Bool.{true, false, cond, true≢false, false≢true}
 use mathlib.Core.List.{List, _++_}
 use mathlib.Core.Option.{Option, none, some}
 use native.Mathlib.Omega.{arith}
-use lib.ListN.{length, getD, take, drop, replicate}
+use lib.Dec.{ltb}
+use lib.ListN.{length, getD, set, take, drop, replicate}
 use lib.Seq.{length-take-le}
 use Rattle.snapshot.specs.Lists.{over}
+use Rattle.snapshot.specs.declared.Value.{Value}
+use Rattle.snapshot.specs.Values.{zeroValue, pagePlaces, listed}
 use Rattle.snapshot.specs.Verdict.{Verdict, clean, lent, again}
-use Rattle.snapshot.specs.Marks.{markFrom, passed}
+use Rattle.snapshot.specs.Marks.{noneMoved, markFrom, passed}
 use Rattle.snapshot.specs.Demand.{Result}
 use Rattle.snapshot.specs.Days.{readFrom, turnBy}
 use Rattle.snapshot.specs.declared.Day.{Day}
 use Rattle.snapshot.specs.declared.Answer.the-variants.{Read, Page}
-use Rattle.snapshot.proofs.Lists.{take-over, over-take}
+use Rattle.snapshot.proofs.Lists.{take-over, take-over-all, over-take}
 use Rattle.unbounded.specs.declared.Register.{Register}
 use Rattle.unbounded.specs.declared.Process.{Process}
 use Rattle.unbounded.specs.declared.Task.{Task}
 use Rattle.unbounded.specs.declared.Task.the-variants.{Idle, Scan, Update, Ready}
-use Rattle.unbounded.specs.Registers.{ascending, pageOf, differs, collectedAt}
+use Rattle.unbounded.specs.Registers.{noRegister, ascending, laid, readInto, pageOf, differs, collectedAt}
 use Rattle.unbounded.specs.Processes.{noProcess, isIdle, begin}
-use Rattle.unbounded.specs.Turns.{reads, position, firstAfter, secondAfter, endAfter, decision, marksAfter, found, afterRead}
+use Rattle.unbounded.specs.Turns.{reads, position, placeAt, firstAfter, secondAfter, endAfter, decision, marksAfter, found, afterRead}
 use Rattle.unbounded.specs.Turns.{foundBy, scanTurn, updateTurn, written, turnedBy, turned}
 use Rattle.unbounded.specs.Days.{figure3}
 use Rattle.unbounded.proofs.Places.{page-of-long}
@@ -29,9 +32,10 @@ use Rattle.unbounded_accesses.specs.declared.Access.{Access}
 use Rattle.unbounded_tasks.specs.declared.Find.{Find}
 use Rattle.unbounded_accesses.specs.Accesses.{isReady, accessOf, registerIn}
 use Rattle.unbounded_finds.specs.Finds.{decisionFind, findOf, pageBy}
-use Rattle.unbounded_turns.specs.Steps.{withTask, readBy, writtenBy, stateBy, begunBy}
+use Rattle.unbounded_turns.specs.Steps.{withTask, clearedBoth, begunBy, readBy, collectedBy, keptBy, markedBy, writtenBy}
+use Rattle.unbounded_turns.specs.Steps.{stateBy}
 use Rattle.unbounded_tasks.specs.Tasks.{keepsBy, endsBy, taskBy, answerBy}
-use Rattle.unbounded_turns.proofs.Parts.{withRegister, withCollected}
+use Rattle.unbounded_turns.proofs.Parts.{withRegister, withCollected, withFirst, withSecond, withEnd, withView, withMarks}
 
 -- a turn in the steps of the code, where it found f
 abbrev pub steps : Access → Register → List ℕ → Process → Find → Task → Result Process
@@ -39,9 +43,9 @@ steps a r page p f k = record { state = stateBy a r p f k; answer = answerBy f k
 
 -- ---- what a turn finds
 
--- n words laid over eight zeros and then over a list are those words laid over the list
-over-over : (n : ℕ) (ws zs page : List ℕ) → length ws ≡ n → over n ws page ≡ over n (over n ws zs) page
-over-over n ws zs page q = sym (ap (λ t. t ++ drop n page) (take-over n ws zs (length-take-le n ws (omega arith))))
+-- n values laid over eight zeros and then over a view are those values laid over the view
+over-over : (n : ℕ) (vs zs view : List Value) → length vs ≡ n → over n vs view ≡ over n (over n vs zs) view
+over-over n vs zs view q = sym (ap (λ t. t ++ drop n view) (take-over n vs zs (length-take-le n vs (omega arith))))
 
 passed-by : (n end : ℕ) (y : List Register) (v : Option Verdict) → passed n v ≡ decisionFind n end y v .passed
 passed-by n end y none = refl
@@ -71,7 +75,7 @@ module _ (n now : ℕ) (r : Register) (page : List ℕ) (p : Process) (t : ℕ) 
   finds v = decisionFind n end y v
 
   -- the record of task k, with task k′ and view w, where the decision is v
-  read-is : (v : Option Verdict) (k k′ : Task) (w : List ℕ) → decided ≡ v →
+  read-is : (v : Option Verdict) (k k′ : Task) (w : List Value) → decided ≡ v →
       w ≡ cond (keepsBy (finds v) k) (over n (finds v .words) (p .view)) (p .view) →
       afterRead ascending n now (position n t) r p k′ w ≡ withTask k′ (readBy a r p (finds v) k)
   unfolding afterRead readBy marksAfter
@@ -85,11 +89,9 @@ module _ (n now : ℕ) (r : Register) (page : List ℕ) (p : Process) (t : ℕ) 
   scan-steps none q =
       ap (λ s. record { state = s; answer = Read; page = page }) (read-is none (Scan t) (Scan (t + 1)) (p .view) q refl)
   scan-steps (some clean) q =
-      ap (λ w. record { state = begin n Idle p; answer = Page 0 end (t + 1); page = w })
-      (over-over n (pageOf ascending n y) (replicate 8 0) page (page-of-long ascending n y))
-  scan-steps (some (lent j)) q =
-      let c = collectedAt ascending y j in
-      ap (λ w. record { state = begin n Idle p; answer = Page (j + 1) (c .at) (t + 1); page = w }) (over-take n (c .view) page)
+      ap (λ vs. record { state = begin n Idle p; answer = Page 0 end (t + 1); page = over (pagePlaces n) (listed vs) page })
+      (sym (take-over-all n (pageOf ascending n y) (replicate 8 zeroValue) (page-of-long ascending n y)))
+  scan-steps (some (lent j)) q = refl
   scan-steps (some again) q =
       ap (λ s. record { state = s; answer = Read; page = page }) (read-is (some again) (Scan t) (Scan (t + 1)) (p .view) q refl)
 
@@ -101,7 +103,7 @@ module _ (n now : ℕ) (r : Register) (page : List ℕ) (p : Process) (t : ℕ) 
   update-steps w (some clean) q =
       ap (λ s. record { state = s; answer = Read; page = page })
       (read-is (some clean) (Update w t) (Ready w end (t + 1)) (over n (pageOf ascending n y) (p .view)) q
-      (over-over n (pageOf ascending n y) (replicate 8 0) (p .view) (page-of-long ascending n y)))
+      (over-over n (pageOf ascending n y) (replicate 8 zeroValue) (p .view) (page-of-long ascending n y)))
   update-steps w (some (lent j)) q =
       let c = collectedAt ascending y j in
       ap (λ s. record { state = s; answer = Read; page = page })
@@ -178,10 +180,12 @@ pub access-count : (day : Day) (k : Task) → accessOf day k .n ≡ day .count
 unfolding accessOf
 access-count day k = refl
 
--- a call: nothing collected, then the task
-pub begun-then-task : (a : Access) (k : Task) (p : Process) → withTask k (begunBy a (p .task) p) ≡ begunBy a k p
-unfolding begunBy begin
-begun-then-task a k p = refl
+-- a call: the collects cleared, then the view, the marks and the end, then the task
+pub begun-in-parts : (a : Access) (k : Task) (p : Process) →
+    let q = clearedBoth (a .n) p in
+    withTask k (withEnd 0 (withMarks noneMoved (withView (over (a .n) (replicate 8 zeroValue) (q .view)) q))) ≡ begunBy a k p
+unfolding begunBy begin clearedBoth
+begun-in-parts a k p = refl
 
 module _ (a : Access) (r : Register) (p : Process) (f : Find) (k : Task) where
   -- a turn that ends its task: the register, then no task and nothing collected
@@ -193,3 +197,47 @@ module _ (a : Access) (r : Register) (p : Process) (f : Find) (k : Task) where
   pub state-went-on : endsBy f k ≡ false → withTask (taskBy f k) (readBy a r p f k) ≡ stateBy a r p f k
   unfolding stateBy
   state-went-on e = rw e
+
+  -- the read: the register in its collect, the end of the first, then what is kept, then the marks
+  pub read-in-parts : let q = collectedBy a r p in
+      let end = endAfter (a .n) (a .pos) (a .now) (q .«first_end») in
+      markedBy f (keptBy a f k (withEnd end q)) ≡ readBy a r p f k
+  unfolding readBy collectedBy keptBy markedBy
+  read-in-parts = refl
+
+-- ---- each part, as a walk stores it
+
+module _ (a : Access) (r : Register) (p : Process) where
+  abbrev place : ℕ
+  place = placeAt (a .n) (a .pos)
+
+  -- the register laid into the first collect, or into the second
+  pub collected-first : ltb (a .pos) (a .n) ≡ true →
+      withFirst (set (p .first) place (laid (a .n) r (getD (p .first) place noRegister))) p ≡ collectedBy a r p
+  unfolding collectedBy firstAfter secondAfter readInto
+  collected-first e = rw e
+
+  pub collected-second : ltb (a .pos) (a .n) ≡ false →
+      withSecond (set (p .second) place (laid (a .n) r (getD (p .second) place noRegister))) p ≡ collectedBy a r p
+  unfolding collectedBy firstAfter secondAfter readInto
+  collected-second e = rw e
+
+module _ (a : Access) (f : Find) (k : Task) (p : Process) where
+  -- the page of f laid over the view, or the view as it was
+  pub kept : keepsBy f k ≡ true → withView (over (a .n) (f .words) (p .view)) p ≡ keptBy a f k p
+  unfolding keptBy
+  kept e = rw e
+
+  pub not-kept : keepsBy f k ≡ false → p ≡ keptBy a f k p
+  unfolding keptBy
+  not-kept e = rw e
+
+module _ (f : Find) (p : Process) where
+  -- the marks stored, or, where the search passed nobody, left
+  pub marked : withMarks (markFrom (differs ascending (p .first) (p .second)) (f .passed) 0 (p .moved)) p ≡ markedBy f p
+  unfolding markedBy
+  marked = refl
+
+  pub not-marked : 0 ≡ f .passed → p ≡ markedBy f p
+  unfolding markedBy
+  not-marked e = ap (λ m. withMarks (markFrom (differs ascending (p .first) (p .second)) m 0 (p .moved)) p) e

@@ -1,5 +1,6 @@
-// The record of a process by value: its parts, and the record after a call, a read or an answer, with the task that it had. A
-// record is copied once and changed in place; the caller stores its task.
+// The record of a process by value: its parts, and what a call, a read or an answer stores in them. A table of records has them
+// stored one by one, in place; `read` gives the whole record, for a table that holds its records packed.
+use snapshot::Value;
 use unbounded::Process;
 use unbounded::Register;
 use unbounded::Task;
@@ -7,18 +8,24 @@ use unbounded_accesses::Access;
 use unbounded_finds::collects;
 use unbounded_tasks::Find;
 use unbounded_tasks::tasks;
-use words::over_words;
+use values::over_values;
 ghost use mathlib.Core.Path.{_≡_};
 ghost use Prim.Native.Nat.{_≤_, _<_};
+ghost use lib.Dec.{ltb};
+ghost use lib.ListN.{replicate};
+ghost use Rattle.snapshot.specs.Lists.{over};
+ghost use Rattle.snapshot.specs.Values.{zeroValue};
+ghost use Rattle.snapshot.specs.Marks.{noneMoved};
 ghost use Rattle.unbounded.specs.Processes.{isIdle, zeroProcess};
 ghost use Rattle.unbounded.specs.Turns.{endAfter};
 ghost use Rattle.unbounded_accesses.specs.Accesses.{Sound};
-ghost use Rattle.unbounded_turns.specs.Steps.{begunBy, readBy, writtenBy, writtenOver};
+ghost use Rattle.unbounded_turns.specs.Steps.{readBy, writtenOver};
 
 // A record in which every number is 0, and which is idle.
 pub fn zero() -> Process
     ensures { λ p. ⌜ p ≡ zeroProcess ⌝ }
 {
+    let v = Value { word: 0, last: 0 };
     let r = collects::no_register();
     Process {
         register: r,
@@ -26,7 +33,7 @@ pub fn zero() -> Process
         first: [r; 8],
         second: [r; 8],
         first_end: 0,
-        view: [0; 8],
+        view: [v; 8],
         moved: [false; 8],
     }
 }
@@ -53,29 +60,35 @@ pub fn rests(p: Process) -> bool
     tasks::is_idle(k)
 }
 
-// The record with nothing collected, as a call begins a task and the end of one leaves it.
-pub fn begun(a: Access, p: Process) -> Process
-    requires { ⌜ Sound a ⌝ }
-    ensures { λ q. ⌜ q ≡ begunBy a (p .task) p ⌝ }
+// A kept view with its first n values set to 0, as a call and the end of a task leave it.
+pub fn emptied_view(n: usize, v: [Value; 8]) -> [Value; 8]
+    requires { ⌜ n ≤ 8 ⌝ }
+    ensures { λ x. ⌜ x ≡ over n (replicate 8 zeroValue) v ⌝ }
 {
-    let n = a.n;
-    let none = collects::no_register();
-    let mut q = p;
-    let mut i = 0;
-    while i < n {
-        let first = q.first[i];
-        let second = q.second[i];
-        let no_first = collects::lay(n, none, first);
-        q.first[i] = no_first;
-        let no_second = collects::lay(n, none, second);
-        q.second[i] = no_second;
-        q.view[i] = 0;
-        i += 1;
-    }
-    let unmarked = [false; 8];
-    q.moved = unmarked;
-    q.first_end = 0;
-    q
+    let unwritten = Value { word: 0, last: 0 };
+    let empty = [unwritten; 8];
+    over_values(n, empty, v)
+}
+
+// No process marked, as a call and the end of a task leave the marks.
+pub fn unmarked() -> [bool; 8]
+    ensures { λ ms. ⌜ ms ≡ noneMoved ⌝ }
+{
+    [false; 8]
+}
+
+// Whether an access reads into the first collect.
+pub fn in_first(a: Access) -> bool
+    ensures { λ b. ⌜ b ≡ ltb (a .pos) (a .n) ⌝ }
+{
+    a.pos < a.n
+}
+
+// Whether the search of a find passed a process: then there may be one to mark.
+pub fn passes(f: Find) -> bool
+    ensures { λ b. ⌜ b ≡ ltb 0 (f .passed) ⌝ }
+{
+    0 < f.passed
 }
 
 // The number of the turn that ended the first collect.
@@ -106,7 +119,7 @@ pub fn read(a: Access, r: Register, k: Task, f: Find, p: Process) -> Process
         q.second[i] = collects::lay(n, r, old);
     }
     if tasks::keeps(k, f) {
-        let view = over_words(n, words, v);
+        let view = over_values(n, words, v);
         q.view = view;
     }
     if 0 < f.passed {
@@ -119,19 +132,9 @@ pub fn read(a: Access, r: Register, k: Task, f: Find, p: Process) -> Process
     q
 }
 
-// The register after the turn of a record: an update that is ready writes it.
-pub fn written(a: Access, p: Process) -> Register
-    requires { ⌜ (a .n ≤ 8) × (p .register .seq < 4294967295) ⌝ }
-    ensures { λ x. ⌜ x ≡ writtenBy a p (p .task) ⌝ }
-{
-    let k = p.task;
-    let old = p.register;
-    let view = p.view;
-    written_over(a, k, old, view)
-}
-
-// The same by the parts of a record: its task, its register and the view that it keeps.
-pub fn written_over(a: Access, k: Task, old: Register, view: [u32; 8]) -> Register
+// The register after the turn of a record, by its task, the register it had and the view that it keeps: an update that is ready
+// writes it.
+pub fn written_over(a: Access, k: Task, old: Register, view: [Value; 8]) -> Register
     requires { ⌜ (a .n ≤ 8) × (old .seq < 4294967295) ⌝ }
     ensures { λ x. ⌜ x ≡ writtenOver a old view k ⌝ }
 {
@@ -141,8 +144,9 @@ pub fn written_over(a: Access, k: Task, old: Register, view: [u32; 8]) -> Regist
         Task::Scan { turns: _ } => old,
         Task::Update { word: _, turns: _ } => old,
         Task::Ready { word, at, turns: _ } => {
+            let value = Value { word, last: a.now };
             let r = Register {
-                word,
+                value,
                 seq: old.seq + 1,
                 view,
                 at,

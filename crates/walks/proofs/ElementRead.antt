@@ -24,7 +24,7 @@ use Rattle.walks.proofs.Thin.{_▹_, ended, Walk}
 use Rattle.walks.proofs.Statements.{Callee, Asks, Says}
 use Rattle.walks.proofs.Rules.{gets}
 use Rattle.walks.proofs.Ends.{begins-shared, ends-shared}
-use Rattle.walks.proofs.Elements.{bytes, offset-fits, finds-element, copies-element}
+use Rattle.walks.proofs.Elements.{bytes, size-operand, offset-fits, finds-element, copies-element}
 
 module _ (X R : Datum) where
   abbrev pub element-params : List (Param 1)
@@ -38,7 +38,7 @@ module _ (X R : Datum) where
 
   abbrev pub element-body : Name → Body
   element-body f =
-      seq (assign (place 3 []) (op2 (mul unsigned) (copy (place 2 [])) (int w64 (bytes X))))
+      seq (assign (place 3 []) (op2 (mul unsigned) (copy (place 2 [])) (size-operand (bytes X))))
       (seq (assign (place 4 []) (op2 offset (copy (place 1 (field 0 ∷ []))) (copy (place 3 []))))
       (seq (assign (place 5 []) (rvOpd (copy (place 4 (deref (X .ty) ∷ [])))))
       (seq (call f (copy (place 5 []) ∷ []) (place 0 [])) return)))

@@ -31,7 +31,7 @@ use Rattle.walks.proofs.Statements.{Callee, Asks, Says}
 use Rattle.walks.proofs.Rules.{gets}
 use Rattle.walks.proofs.Locals.{counts, unit-stored, as-row}
 use Rattle.walks.proofs.Ends.{closer, begins-lent, ends-lent}
-use Rattle.walks.proofs.Elements.{bytes, offset-fits, finds-element, stores-element}
+use Rattle.walks.proofs.Elements.{bytes, size-operand, offset-fits, finds-element, stores-element}
 use Rattle.walks.proofs.Loops.{forgets, starts, compares, tests, counts-on, while-loops}
 
 -- how many of n places are passed
@@ -57,7 +57,7 @@ module _ (X : Datum) where
       seq (assign (place 3 []) (rvOpd (copy (place 1 (field 1 ∷ [])))))
       (seq (assign (place 4 []) (op2 (lt unsigned) (copy (place 2 [])) (copy (place 3 []))))
       (seq (cond (copy (place 4 [])) skip (exit 1))
-      (seq (call f [] (place 5 [])) (seq (assign (place 3 []) (op2 (mul unsigned) (copy (place 2 [])) (int w64 (bytes X))))
+      (seq (call f [] (place 5 [])) (seq (assign (place 3 []) (op2 (mul unsigned) (copy (place 2 [])) (size-operand (bytes X))))
       (seq (assign (place 6 []) (op2 offset (copy (place 1 (field 0 ∷ []))) (copy (place 3 []))))
       (seq (assign (place 6 (deref (X .ty) ∷ [])) (rvOpd (copy (place 5 []))))
       (assign (place 2 []) (op2 (add unsigned) (copy (place 2 [])) (int w64 1)))))))))

@@ -32,7 +32,7 @@ use Rattle.walks.proofs.Statements.{Callee, Asks, Says}
 use Rattle.walks.proofs.Rules.{gets}
 use Rattle.walks.proofs.Locals.{counts, copies}
 use Rattle.walks.proofs.Ends.{begins-shared, ends-shared}
-use Rattle.walks.proofs.Elements.{bytes, offset-fits, finds-element, copies-element}
+use Rattle.walks.proofs.Elements.{bytes, size-operand, offset-fits, finds-element, copies-element}
 use Rattle.walks.proofs.Loops.{forgets, starts, compares, tests, counts-on, while-loops}
 
 -- `let mut acc = start; let mut i = 0; while i < s.len() { acc = g(acc, s[i]); i += 1; } acc`
@@ -54,7 +54,7 @@ module _ (X D : Datum) where
       seq (assign (place 5 []) (rvOpd (copy (place 1 (field 1 ∷ [])))))
       (seq (assign (place 6 []) (op2 (lt unsigned) (copy (place 4 [])) (copy (place 5 []))))
       (seq (cond (copy (place 6 [])) skip (exit 1))
-      (seq (assign (place 5 []) (op2 (mul unsigned) (copy (place 4 [])) (int w64 (bytes X))))
+      (seq (assign (place 5 []) (op2 (mul unsigned) (copy (place 4 [])) (size-operand (bytes X))))
       (seq (assign (place 7 []) (op2 offset (copy (place 1 (field 0 ∷ []))) (copy (place 5 []))))
       (seq (assign (place 8 []) (rvOpd (copy (place 7 (deref (X .ty) ∷ [])))))
       (seq (call f (copy (place 3 []) ∷ copy (place 8 []) ∷ []) (place 3 []))

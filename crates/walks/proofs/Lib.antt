@@ -17,6 +17,7 @@ pub mod Loops
 pub mod Folds
 pub mod Fills
 pub mod Arrays
+pub mod Items
 pub mod ElementRead
 pub mod SliceParts
 pub mod FourSlices

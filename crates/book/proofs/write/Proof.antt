@@ -33,7 +33,7 @@ returns-2 c =
     let h = c .before .before .before .before .before .before .has-room in
     let p = c .before .before .pass in
     writes (a .bytes .now) (p .result) (a .book .now) (p .last .1 .0)
-    (subst (λ b. Passed (p .result) (a .bytes .now) (replicate 8 0) b (p .last .1 .0)) (h .ensures .1) (p .ensures))
+    (subst (λ b. Passed (p .result) (a .bytes .now) (replicate 16 0) b (p .last .1 .0)) (h .ensures .1) (p .ensures))
     (sym (h .ensures .0) ∙ not-false (h .result) (c .before .before .before .before .if1 .left))
 
 pub write-spec : {M : Type 1} → statement M

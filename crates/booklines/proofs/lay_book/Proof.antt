@@ -34,6 +34,9 @@ cast-places c =
 slice-aggregate-lay : tie.Need-slice-aggregate-lay
 slice-aggregate-lay c = search needs
 
+slice-aggregate-lay-2 : tie.Need-slice-aggregate-lay-2
+slice-aggregate-lay-2 c = search needs
+
 lay-requires : tie.Need-lay-requires
 lay-requires c κs = search needs
 
@@ -43,7 +46,7 @@ same-length c = search needs
 returns-2 : tie.Need-returns-2
 returns-2 c =
     let at-lay = c .before .before in
-    let at-places = at-lay .before .before .before .before .before in
+    let at-places = at-lay .before .before .before .before .before .before in
     let at-test = at-places .before .before in
     let a = at-test .before .before .before .args in
     let test = sym (at-test .before .has-room .ensures) ∙ not-false _ (at-test .if1 .left) in
@@ -61,6 +64,7 @@ lay-book-spec =
     lay-places-requires
     cast-places
     slice-aggregate-lay
+    slice-aggregate-lay-2
     lay-requires
     same-length
     returns-2)

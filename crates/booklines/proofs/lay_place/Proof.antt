@@ -2,6 +2,7 @@
 use Prim.Native.Nat.{_+_, _-_, _≤_}
 use native.Mathlib.Omega.{arith}
 use mathlib.Core.Path.{_≡_, ap₂, _∙_}
+use mathlib.Core.List.{[]}
 use lib.ListN.{length, take, drop, length-take}
 use borrow.Author.Needs.{needs}
 use Rattle.daytext.specs.Buffer.{laidPlace, laidText}
@@ -24,6 +25,9 @@ part-lay-start c = search needs
 part-lay-end : tie.Need-part-lay-end
 part-lay-end c = search needs
 
+slice-aggregate-lay : tie.Need-slice-aggregate-lay
+slice-aggregate-lay c = search needs
+
 lay-requires : tie.Need-lay-requires
 lay-requires c κs = search needs
 
@@ -33,7 +37,7 @@ same-length c = search needs
 returns : tie.Need-returns
 returns c =
     let at-lay = c .before .before in
-    let at-line = at-lay .before .before .before in
+    let at-line = at-lay .before .before .before .before in
     let start = at-line .before .before .before in
     let a = start .args in
     let p = a .place .now in
@@ -41,8 +45,8 @@ returns c =
     let shown : 3 + a .n - 3 ≡ a .n = omega arith in
     let few : length (take (a .n) (drop 3 p)) ≤ 8 = simp length-take (omega arith) in
     line-laid (place-book-line p) (take (a .n) (drop 3 p)) (a .out .now) (a .at) few (start .pre .1)
-    (at-lay .lay .ensures .0 ∙ ap₂ (λ l k. laidPlace l (take k (drop 3 p)) (a .out .now) (a .at)) line shown)
-    (at-lay .lay .ensures .1 ∙ ap₂ (λ l k. laidText l (take k (drop 3 p)) (a .out .now) (a .at)) line shown)
+    (at-lay .lay .ensures .0 ∙ ap₂ (λ l k. laidPlace l (take k (drop 3 p)) [] (a .out .now) (a .at)) line shown)
+    (at-lay .lay .ensures .1 ∙ ap₂ (λ l k. laidText l (take k (drop 3 p)) [] (a .out .now) (a .at)) line shown)
 
 pub lay-place-spec : {M : Type 1} → statement M
 lay-place-spec =
@@ -53,6 +57,7 @@ lay-place-spec =
     sub-lay
     part-lay-start
     part-lay-end
+    slice-aggregate-lay
     lay-requires
     same-length
     returns)

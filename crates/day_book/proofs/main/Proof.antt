@@ -15,13 +15,13 @@ slice-aggregate-run-2 : tie.Need-slice-aggregate-run-2
 slice-aggregate-run-2 c = search needs
 
 slice-aggregate-run-3 : tie.Need-slice-aggregate-run-3
-slice-aggregate-run-3 c = sym (length-replicate {A = ℕ} 2643501 0)
+slice-aggregate-run-3 c = sym (length-replicate {A = ℕ} 2643517 0)
 
 run-requires : tie.Need-run-requires
 run-requires c κs =
     let places : List (List ℕ) = replicate 21845 (replicate 11 0) in
-    let out : List ℕ = replicate 2643501 0 in
-    room-enough places out (length-replicate {A = List ℕ} 21845 (replicate 11 0)) (length-replicate {A = ℕ} 2643501 0)
+    let out : List ℕ = replicate 2643517 0 in
+    room-enough places out (length-replicate {A = List ℕ} 21845 (replicate 11 0)) (length-replicate {A = ℕ} 2643517 0)
 
 returns : tie.Need-returns
 returns c = tt

@@ -40,7 +40,7 @@ returns-2 c =
     let line = reckoningText (a .desks) in
     let figures = reckoned (a .desks) (map answerIn (take (a .q .count) (a .answers .now))) in
     let whole = not-false (a .q .whole) (c .before .before .before .before .before .before .if1 .left) in
-    laid-as (ap (λ b. cond b [] (line (at-lay .before .before .reckon .result))) (le-ltb (length (a .out .now)) 256 (held .pre .1))
+    laid-as (ap (λ b. cond b [] (line (at-lay .before .before .reckon .result))) (le-ltb (length (a .out .now)) 272 (held .pre .1))
     ∙ ap line (at-lay .before .before .reckon .ensures) ∙ sym (ap (λ w. cond w (line figures) []) whole)) (at-lay .lay .ensures)
 
 pub lay-spec : {M : Type 1} → statement M

@@ -27,7 +27,7 @@ slice-aggregate-run-3 : tie.Need-slice-aggregate-run-3
 slice-aggregate-run-3 c = sym (length-replicate {A = List ℕ} 65536 (replicate 3 0))
 
 slice-aggregate-run-4 : tie.Need-slice-aggregate-run-4
-slice-aggregate-run-4 c = sym (length-replicate {A = ℕ} 256 0)
+slice-aggregate-run-4 c = sym (length-replicate {A = ℕ} 272 0)
 
 run-requires : tie.Need-run-requires
 run-requires c κs =

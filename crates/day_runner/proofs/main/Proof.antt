@@ -23,9 +23,9 @@ passes-requires : tie.Need-passes-requires
 passes-requires c κs =
     let r = c .before .before .before .start in
     let bytes : List ℕ = replicate 6138 0 in
-    let out : List ℕ = replicate 262144 0 in (
-      start-rests (r .result) (replicate 8 0) bytes out (r .ensures .0)
-          (length-replicate {A = ℕ} 6138 0) (length-replicate {A = ℕ} 262144 0) (length-replicate {A = ℕ} 8 0),
+    let out : List ℕ = replicate 278528 0 in (
+      start-rests (r .result) (replicate 16 0) bytes out (r .ensures .0)
+          (length-replicate {A = ℕ} 6138 0) (length-replicate {A = ℕ} 278528 0) (length-replicate {A = ℕ} 16 0),
       start-is-blank (r .result) bytes out (r .ensures .0) (r .ensures .1),
     )
 

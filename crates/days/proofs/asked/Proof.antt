@@ -13,7 +13,8 @@ use Rattle.dayfile.specs.declared.Reading.the-variants.{Found, End, Refused}
 use Rattle.unbounded.specs.declared.Process.{Process}
 use Rattle.requests.specs.Requests.{pageAfter}
 use Rattle.memory.specs.Tables.{outcomeOf}
-use Rattle.memory.proofs.Types.{a-process, a-day, a-request, an-outcome}
+use Rattle.unbounded_own.proofs.Types.{a-process}
+use Rattle.memory.proofs.Types.{a-day, a-request, an-outcome}
 use Rattle.days.specs.Asking.{isNone, requestOf, unaskedOf, steppedBy, askedOutcome, askedTable, askedPage}
 use Rattle.days.proofs.Data.{a-reading}
 use Rattle.days.proofs.is_none as is-none

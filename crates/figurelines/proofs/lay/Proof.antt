@@ -27,6 +27,9 @@ number-requires c κs = search needs
 slice-aggregate-lay : tie.Need-slice-aggregate-lay
 slice-aggregate-lay c = search needs
 
+slice-aggregate-lay-2 : tie.Need-slice-aggregate-lay-2
+slice-aggregate-lay-2 c = search needs
+
 lay-requires : tie.Need-lay-requires
 lay-requires c κs = search needs
 
@@ -47,11 +50,11 @@ same-length-2 c = search needs
 returns-3 : tie.Need-returns-3
 unfolding reckoningText
 returns-3 c =
-    let a = c .before .before .before .before .before .before .before .before .before .before .before .args in
+    let a = c .before .before .before .before .before .before .before .before .before .before .before .before .args in
     let lay = c .before .before .lay .ensures in
-    let k = c .before .before .before .before .before .before .before .r2 .given in
-    let number = c .before .before .before .before .before .number .ensures in
-    let room = c .before .before .before .before .before .before .before .before .before .if1 .left in
+    let k = c .before .before .before .before .before .before .before .before .r2 .given in
+    let number = c .before .before .before .before .before .before .number .ensures in
+    let room = c .before .before .before .before .before .before .before .before .before .before .if1 .left in
     all-laid (a .desks) (a .r) (a .out .now) room
     (laid-as (sym (ap (reckoningText (a .desks)) (k .1)))
     (refusal-laid (a .out .now) room (k .0 .0) _ number (lay .0) (lay .1)))
@@ -66,6 +69,7 @@ lay-spec =
     enum-known-r-2
     number-requires
     slice-aggregate-lay
+    slice-aggregate-lay-2
     lay-requires
     same-length
     returns-2

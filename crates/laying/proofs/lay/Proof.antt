@@ -13,16 +13,22 @@ turned : {r k : ℕ} {b l : List ℕ} → (r ≡ k) × (b ≡ l) → (k ≡ r) �
 turned e = (sym (e .0), sym (e .1))
 
 returns : tie.Need-returns
-returns c = turned (kept-with-more-words _ _ _ _ (c .if1 .taken))
+returns c = turned (kept-with-more-words _ _ _ _ _ (omega arith))
+
+sub-if2 : tie.Need-sub-if2
+sub-if2 c = search needs
 
 returns-2 : tie.Need-returns-2
-returns-2 c = turned (kept-with-fewer-bytes _ _ _ _ (c .before .if1 .left) (omega arith))
-
-sub-if3 : tie.Need-sub-if3
-sub-if3 c = search needs
+returns-2 c = turned (kept-with-more-words _ _ _ _ _ (omega arith))
 
 returns-3 : tie.Need-returns-3
-returns-3 c = turned (kept-with-fewer-bytes _ _ _ _ (c .before .before .if1 .left) (omega arith))
+returns-3 c = turned (kept-with-fewer-bytes _ _ _ _ _ (omega arith) (omega arith))
+
+sub-if4 : tie.Need-sub-if4
+sub-if4 c = search needs
+
+returns-4 : tie.Need-returns-4
+returns-4 c = turned (kept-with-fewer-bytes _ _ _ _ _ (omega arith) (omega arith))
 
 body-requires : tie.Need-body-requires
 body-requires c κs = search needs
@@ -33,14 +39,14 @@ byte-requires c κs = search needs
 same-length : tie.Need-same-length
 same-length c = search needs
 
-returns-4 : tie.Need-returns-4
+returns-5 : tie.Need-returns-5
 unfolding textOf
-returns-4 c =
+returns-5 c =
     let at-body = c .before .before .before .before .before .before in
-    let at-if1 = at-body .before .before .before .before in
-    let args = at-if1 .before .before .before .args in
+    let at-if2 = at-body .before .before .before .before in
+    let args = at-if2 .before .before .before .before .before .args in
     let line = in-turn (omega arith) (at-body .body .ensures .0) (c .before .before .byte .ensures) in
-    let goal = laid-with-room (args .line) (args .words .now) (args .out .now) (args .at) (at-if1 .if1 .left) (omega arith) in
+    let goal = laid-with-room (args .line) (args .words .now) (args .lasts .now) (args .out .now) (args .at) (omega arith) (omega arith) in
     (line .end ∙ sym (goal .0), line .buffer ∙ sym (goal .1))
 
 pub lay-spec : {M : Type 1} → statement M
@@ -48,10 +54,12 @@ lay-spec =
     tie.close
     (tie.spec
     returns
+    sub-if2
     returns-2
-    sub-if3
     returns-3
+    sub-if4
+    returns-4
     body-requires
     byte-requires
     same-length
-    returns-4)
+    returns-5)

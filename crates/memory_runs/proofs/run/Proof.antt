@@ -12,6 +12,7 @@ use Rattle.walks.proofs.Walking.{_▹_, begins-four, four-open, brings, copies-
 use Rattle.walks.proofs.Walking.{field-seen, seen, all-seen, forgets, while-loops, tests, calls-passed-is, lends-again, calls-two}
 use Rattle.walks.proofs.Walking.{calls-lent, as-long, room-for, ends-four, callee, given, nothing-asked, asks-nothing, four-given}
 use Rattle.walks.proofs.Walking.{three-said, unit-said, id⊢}
+use Rattle.snapshot.specs.Values.{pagePlaces}
 use Rattle.snapshot.specs.declared.Day.{Day}
 use Rattle.snapshot.specs.declared.Answer.{Answer}
 use Rattle.snapshot.specs.Demand.{Result}
@@ -25,7 +26,8 @@ use Rattle.runs.specs.declared.Plan.{Plan}
 use Rattle.runs.specs.declared.Reached.{Reached}
 use Rattle.runs.specs.Plans.{reachedAt, outcomeAt, runOutcomeOf, laidFrom}
 use Rattle.memory_runs.specs.Runs.{turnAt, runOn}
-use Rattle.memory.proofs.Types.{a-process, a-day, an-answer, an-outcome}
+use Rattle.unbounded_own.proofs.Types.{a-process}
+use Rattle.memory.proofs.Types.{a-day, an-answer, an-outcome}
 use Rattle.runs.proofs.Looped.{wholeFrom, Goes, plan, goes-first, goes-inside, goes-next, goes-last}
 use Rattle.memory_runs.proofs.Types.{a-plan, a-reached, a-run-outcome, its-count, outcome-day}
 use Rattle.runs.proofs.planned as planned
@@ -104,13 +106,13 @@ module _ {p : Plan} {ds : List ℕ} {whole : RunResult (Days.State Process) Answ
 
 -- what the contract says
 comes-to : (day : Day) (xs : List Process) (ds : List ℕ) (ys : List Answer) (zs : List ℕ) (p : Plan) →
-    p ≡ plan give told (day .count) day xs ds ys zs → (at : Reached) (xs′ : List Process) (ys′ : List Answer) (zs′ : List ℕ) →
+    p ≡ plan give told (pagePlaces (day .count)) day xs ds ys zs → (at : Reached) (xs′ : List Process) (ys′ : List Answer) (zs′ : List ℕ) →
     Goes give told p ds (wholeFrom give told p ds day xs ys zs) at xs′ ys′ zs′ → p .turns ≤ at .turns →
     let r = runOn day xs ds ys zs in
     (outcomeAt (at .day) (p .check) ≡ runOutcomeOf r) × (xs′ ≡ r .state .table) × (ys′ ≡ r .answers) × (zs′ ≡ r .pages)
 unfolding ran
 comes-to day xs ds ys zs p planned at xs′ ys′ zs′ g last =
-    goes-last give told (day .count) day xs ds ys zs p (reachedAt day 0 0) planned refl at xs′ ys′ zs′ g last
+    goes-last give told (pagePlaces (day .count)) day xs ds ys zs p (reachedAt day 0 0) planned refl at xs′ ys′ zs′ g last
 
 fewer : (i n : ℕ) → i < n → n - (i + 1) < n - i
 fewer i n l = omega (arith, l)
@@ -153,7 +155,7 @@ run-spec 𝓤 H 𝓜 𝓖 𝓡 =
     counts ! refl refl (tt, refl) ▹ counts ! refl refl (tt, refl) ▹
     counts ! refl refl (tt, refl) ▹ counts ! refl refl (tt, refl) ▹
     gets-some ! planned-is ((tt, tt, refl), tt) (asks-nothing 𝓤)
-    (λ p. p ≡ plan give told (day .count) day (table .now) ds (answers .now) (pages .now)) (λ q ws. id⊢ 𝓤 _) (λ p p-as p-is.
+    (λ p. p ≡ plan give told (pagePlaces (day .count)) day (table .now) ds (answers .now) (pages .now)) (λ q ws. id⊢ 𝓤 _) (λ p p-as p-is.
     gets ! begin-is (reachedAt day 0 0) ((tt, tt, refl), tt) (asks-nothing 𝓤) (λ q ws. id⊢ 𝓤 _) (λ at-is.
     forgets ! 9 ▹
     while-loops 𝓤 H 𝓜 𝓖 𝓡 code.env !
@@ -205,5 +207,5 @@ run-spec 𝓤 H 𝓜 𝓖 𝓡 =
       table-long = refl;
       answers-long = refl;
       pages-long = refl;
-      goes = goes-first give told (day .count) day (table .now) ds (answers .now) (pages .now) p (reachedAt day 0 0) p-as refl;
+      goes = goes-first give told (pagePlaces (day .count)) day (table .now) ds (answers .now) (pages .now) p (reachedAt day 0 0) p-as refl;
     }) refl))))

@@ -10,7 +10,8 @@ use Rattle.walks.proofs.Walking.{finds-element, lends-part, part-out, part-back
 use Rattle.walks.proofs.Walking.{offset-within, calls-two, as-long, room-for, ends-two, callee, given, asks-nothing}
 use Rattle.walks.proofs.Walking.{three-given, three-said, id⊢}
 use Rattle.memory.specs.Tables.{outcomeOf}
-use Rattle.memory.proofs.Types.{a-process, a-day, an-outcome}
+use Rattle.unbounded_own.proofs.Types.{a-process}
+use Rattle.memory.proofs.Types.{a-day, an-outcome}
 use Rattle.runs.specs.Plans.{laidFrom}
 use Rattle.memory_runs.specs.Runs.{turnAt}
 use Rattle.memory_runs.proofs.Types.{a-reached, a-plan, its-day, its-words}

@@ -50,13 +50,13 @@ loop-again c =
     let x = c .before .before .before .before .args in
     let l = c .before .before .loop in
     let ws = x .w .now in
-    let r = c .register-at .ensures ∙ ap unpackRegister (sym (drop-drop (11 * l .i) (x .a) ws)) in (
+    let r = c .register-at .ensures ∙ ap unpackRegister (sym (drop-drop (20 * l .i) (x .a) ws)) in (
       omega arith,
       simp length-set (omega arith),
       ap (λ k. take k (set (l .rs) (l .i) (c .register-at .result))) (add-one (l .i))
           ∙ take-suc-set (l .rs) (l .i) (c .register-at .result) (omega arith)
           ∙ (λ i. l .inv .2 i ++ (r i ∷ []))
-          ∙ unpack-more (l .i) (drop (x .a) ws)
+          ∙ unpack-more unpackRegister 20 (l .i) (drop (x .a) ws)
           ∙ ap (λ k. unpackCollect k (drop (x .a) ws)) (sym (add-one (l .i))),
     )
 

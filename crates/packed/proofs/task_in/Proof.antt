@@ -43,8 +43,8 @@ returns : tie.Need-returns
 returns c =
     let ws = c .before .before .before .before .before .args .w .now in
     c .task-of .ensures
-    ∙ (λ i. taskOfKind (sym (getD-drop 11 ws 0 0) i) (sym (getD-drop 11 ws 1 0) i) (sym (getD-drop 11 ws 2 0) i) (sym
-    (getD-drop 11 ws 3 0) i))
+    ∙ (λ i. taskOfKind (sym (getD-drop 20 ws 0 0) i) (sym (getD-drop 20 ws 1 0) i) (sym (getD-drop 20 ws 2 0) i) (sym
+    (getD-drop 20 ws 3 0) i))
 
 pub task-in-spec : {M : Type 1} → statement M
 task-in-spec =

@@ -1,109 +1,82 @@
 -- `packed::view_at` meets its contract.
-use mathlib.Core.Path.{sym}
-use Rattle.packed.proofs.Words.{eight-words}
+use Prim.Native.Nat.{_*_, _-_, _≤_}
+use native.Mathlib.Numerals.{add-one}
+use native.Mathlib.Omega.{arith}
+use mathlib.Core.Path.{_≡_, refl, sym, ap, _∙_}
+use mathlib.Core.List.{[], _∷_, _++_}
+use lib.ListN.{length, take, drop, set, length-set}
+use lib.Seq.{drop-drop, take-all, take-suc-set}
+use Rattle.packed.specs.Packing.{unpackValue, unpackView}
+use Rattle.packed.proofs.Packing.{unpack-more}
 use borrow.Author.Needs.{needs}
 use Rattle.packed.proofs.view_at.Statement.{statement}
 use Rattle.packed.proofs.view_at.Tie as tie
 
-mul-t3 : tie.Need-mul-t3
-mul-t3 c = search needs
+abbrev Inv-loop : tie.InvT-loop
+Inv-loop w a vs₀ i₀ vs i = (i ≤ 8) × (length vs ≡ 8) × (take i vs ≡ unpackView i (drop a w))
 
-element-copy-out-t6 : tie.Need-element-copy-out-t6
-element-copy-out-t6 c = search needs
+abbrev μ-loop : tie.MeasureT-loop
+μ-loop w a vs₀ i₀ vs i = 8 - i
 
-add-t7 : tie.Need-add-t7
-add-t7 c = search needs
+loop-holds : tie.Need-loop-holds Inv-loop μ-loop
+loop-holds c = (omega arith, refl, refl)
 
-mul-t8 : tie.Need-mul-t8
-mul-t8 c = search needs
+mul-value-at : tie.Need-mul-value-at Inv-loop μ-loop
+mul-value-at c = search needs
 
-element-copy-out-t11 : tie.Need-element-copy-out-t11
-element-copy-out-t11 c = search needs
+add-value-at : tie.Need-add-value-at Inv-loop μ-loop
+add-value-at c = search needs
 
-add-t12 : tie.Need-add-t12
-add-t12 c = search needs
+value-at-requires : tie.Need-value-at-requires Inv-loop μ-loop
+value-at-requires c κs = search needs
 
-mul-t13 : tie.Need-mul-t13
-mul-t13 c = search needs
+mul-vs : tie.Need-mul-vs Inv-loop μ-loop
+mul-vs c = search needs
 
-element-copy-out-t16 : tie.Need-element-copy-out-t16
-element-copy-out-t16 c = search needs
+array-set-from-vs : tie.Need-array-set-from-vs Inv-loop μ-loop
+array-set-from-vs c = search needs
 
-add-t17 : tie.Need-add-t17
-add-t17 c = search needs
+add-i : tie.Need-add-i Inv-loop μ-loop
+add-i c = search needs
 
-mul-t18 : tie.Need-mul-t18
-mul-t18 c = search needs
+loop-less : tie.Need-loop-less Inv-loop μ-loop
+loop-less c = search needs
 
-element-copy-out-t21 : tie.Need-element-copy-out-t21
-element-copy-out-t21 c = search needs
+loop-again : tie.Need-loop-again Inv-loop μ-loop
+loop-again c =
+    let x = c .before .before .before .args in
+    let l = c .before .before .loop in
+    let ws = x .w .now in
+    let r = c .value-at .ensures ∙ ap unpackValue (sym (drop-drop (2 * l .i) (x .a) ws)) in (
+      omega arith,
+      simp length-set (omega arith),
+      ap (λ k. take k (set (l .vs) (l .i) (c .value-at .result))) (add-one (l .i))
+          ∙ take-suc-set (l .vs) (l .i) (c .value-at .result) (omega arith)
+          ∙ (λ i. l .inv .2 i ++ (r i ∷ []))
+          ∙ unpack-more unpackValue 2 (l .i) (drop (x .a) ws)
+          ∙ ap (λ k. unpackView k (drop (x .a) ws)) (sym (add-one (l .i))),
+    )
 
-add-t22 : tie.Need-add-t22
-add-t22 c = search needs
-
-mul-t23 : tie.Need-mul-t23
-mul-t23 c = search needs
-
-element-copy-out-t26 : tie.Need-element-copy-out-t26
-element-copy-out-t26 c = search needs
-
-add-t27 : tie.Need-add-t27
-add-t27 c = search needs
-
-mul-t28 : tie.Need-mul-t28
-mul-t28 c = search needs
-
-element-copy-out-t31 : tie.Need-element-copy-out-t31
-element-copy-out-t31 c = search needs
-
-add-t32 : tie.Need-add-t32
-add-t32 c = search needs
-
-mul-t33 : tie.Need-mul-t33
-mul-t33 c = search needs
-
-element-copy-out-t36 : tie.Need-element-copy-out-t36
-element-copy-out-t36 c = search needs
-
-add-t37 : tie.Need-add-t37
-add-t37 c = search needs
-
-mul-t38 : tie.Need-mul-t38
-mul-t38 c = search needs
-
-element-copy-out-t41 : tie.Need-element-copy-out-t41
-element-copy-out-t41 c = search needs
-
-returns : tie.Need-returns
+returns : tie.Need-returns Inv-loop μ-loop
 returns c =
-    let x = c .before .before .before .before .before .before .before .before .args in
-    sym (eight-words (x .w .now) (x .a))
+    let x = c .before .before .args in
+    let l = c .before .loop in
+    let all : l .i ≡ 8 = omega arith in
+    sym (take-all (l .i) (l .vs) (omega arith)) ∙ l .inv .2 ∙ ap (λ k. unpackView k (drop (x .a) (x .w .now))) all
 
 pub view-at-spec : {M : Type 1} → statement M
 view-at-spec =
     tie.close
     (tie.spec
-    mul-t3
-    element-copy-out-t6
-    add-t7
-    mul-t8
-    element-copy-out-t11
-    add-t12
-    mul-t13
-    element-copy-out-t16
-    add-t17
-    mul-t18
-    element-copy-out-t21
-    add-t22
-    mul-t23
-    element-copy-out-t26
-    add-t27
-    mul-t28
-    element-copy-out-t31
-    add-t32
-    mul-t33
-    element-copy-out-t36
-    add-t37
-    mul-t38
-    element-copy-out-t41
+    Inv-loop
+    μ-loop
+    loop-holds
+    mul-value-at
+    add-value-at
+    value-at-requires
+    mul-vs
+    array-set-from-vs
+    add-i
+    loop-less
+    loop-again
     returns)

@@ -71,7 +71,9 @@ answer-requires : tie.Need-answer-requires
 answer-requires c κs = search needs
 
 accepted-requires : tie.Need-accepted-requires
-accepted-requires c κs = search needs
+accepted-requires c κs =
+    let at-place = c .before .before .before .before .before .before .before .before .before in
+    at-place .before .before .before .pre .0 .allows .room
 
 same-length : tie.Need-same-length
 same-length c = search needs

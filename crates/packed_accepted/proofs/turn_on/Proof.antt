@@ -61,7 +61,7 @@ task-at c =
     let i = c .before .before .index-in .ensures in
     let inside = subst (λ k. k < length (a .t .now)) i (inside-at (c .before .before)) in (
       inside,
-      c .task-in .ensures ∙ ap (λ j. unpackTask (drop 11 (getD (a .t .now) j []))) i ∙ task-is (a .t .now) (numberIn (a .x) - 1) inside,
+      c .task-in .ensures ∙ ap (λ j. unpackTask (drop 20 (getD (a .t .now) j []))) i ∙ task-is (a .t .now) (numberIn (a .x) - 1) inside,
     )
 
 is-ready-requires : tie.Need-is-ready-requires

@@ -20,18 +20,22 @@ seq-in-requires c κs = search needs
 at-in-requires : tie.Need-at-in-requires
 at-in-requires c κs = search needs
 
+last-in-requires : tie.Need-last-in-requires
+last-in-requires c κs = search needs
+
 register-seen-requires : tie.Need-register-seen-requires
 register-seen-requires c κs = search needs
 
 returns : tie.Need-returns
 unfolding unpackRecord surveyedBy
 returns c =
-    let at-task = c .before .before .before in
+    let at-seq = c .before .before .before in
+    let at-task = at-seq .before in
     let a = at-task .before .before .args in
     let found = at-task .task-seen .ensures ∙ ap (taskSeen (a .s)) (at-task .before .task-in .ensures) in
     c .register-seen .ensures
-    ∙ (λ i. registerSeen (found i) (c .before .before .seq-in .ensures i) (c .before .at-in .ensures i))
-    ∙ task-first (a .s) (unpackTask (drop 11 (a .w .now))) _ _
+    ∙ (λ i. registerSeen (found i) (at-seq .seq-in .ensures i) (c .before .before .at-in .ensures i) (c .before .last-in .ensures i))
+    ∙ task-first (a .s) (unpackTask (drop 20 (a .w .now))) _ _ _
 
 pub looked-at-spec : {M : Type 1} → statement M
 looked-at-spec =
@@ -41,5 +45,6 @@ looked-at-spec =
     task-seen-requires
     seq-in-requires
     at-in-requires
+    last-in-requires
     register-seen-requires
     returns)

@@ -4,6 +4,7 @@ use native.Mathlib.Omega.{arith}
 use mathlib.Core.Path.{_≡_, refl, ap, _∙_}
 use lib.ListN.{length, set}
 use borrow.Author.Needs.{needs}
+use Rattle.snapshot.specs.Values.{pagePlaces}
 use Rattle.numbers.specs.Replies.{dayWith, replyWords}
 use Rattle.runs.specs.Plans.{reachedAt}
 use Rattle.runs.proofs.Looped.{goes-on, goes-out, wholeFrom, Goes, goes-first, goes-inside, goes-next, goes-last}
@@ -31,7 +32,7 @@ begin-requires c κs = search needs
 loop-holds : tie.Need-loop-holds Inv-loop μ-loop
 loop-holds c =
     let a = c .before .before .before .before .args in (
-      goes-first giveIn toldIn (a .day .count) (a .day) (a .t .now) (a .list .now) (a .replies .now) (a .pages .now) _ _
+      goes-first giveIn toldIn (pagePlaces (a .day .count)) (a .day) (a .t .now) (a .list .now) (a .replies .now) (a .pages .now) _ _
           (c .before .planned .ensures) (c .begin .ensures),
       refl,
       refl,
@@ -120,9 +121,9 @@ returns c =
     let l = c .before .before .before .loop in
     let at-plan = c .before .before .before .before .before in
     let a = at-plan .before .before .before .args in
-    let left = goes-last giveIn toldIn (a .day .count) (a .day) (a .t .now) (a .list .now) (a .replies .now) (a .pages .now) _ _
-    (at-plan .planned .ensures) (c .before .before .before .before .begin .ensures) (l .at) (l .t) (l .replies) (l .pages)
-    (l .inv .0) (goes-out (c .before .before .goes .ensures) (c .before .if1 .left)) in
+    let left = goes-last giveIn toldIn (pagePlaces (a .day .count)) (a .day) (a .t .now) (a .list .now) (a .replies .now)
+    (a .pages .now) _ _ (at-plan .planned .ensures) (c .before .before .before .before .begin .ensures) (l .at) (l .t)
+    (l .replies) (l .pages) (l .inv .0) (goes-out (c .before .before .goes .ensures) (c .before .if1 .left)) in
     (c .end .ensures ∙ left .0, (left .1, (left .2, left .3)))
 
 pub run-spec : {M : Type 1} → statement M

@@ -9,14 +9,14 @@ use Rattle.unbounded.specs.Registers.{noRegister}
 use Rattle.packed.specs.Packing.{packRegister, packCollect}
 use Rattle.packed.proofs.Words.{sets-then}
 use Rattle.packed.proofs.Packing.{register-long}
-use Rattle.packed_stores.proofs.Stored.{stored-whole, collect-more}
+use Rattle.packed_stores.proofs.Stored.{stored-whole, chained-more}
 use borrow.Author.Needs.{needs}
 use Rattle.packed_stores.proofs.lay_collect.Statement.{statement}
 use Rattle.packed_stores.proofs.lay_collect.Tie as tie
 
 abbrev Inv-loop : tie.InvT-loop
 Inv-loop w₀ a rs i₀ w i =
-    (i ≤ 8) × (w ≡ sets w₀ a (packCollect (take i rs))) × (length (packCollect (take i rs)) ≡ 11 * i)
+    (i ≤ 8) × (w ≡ sets w₀ a (packCollect (take i rs))) × (length (packCollect (take i rs)) ≡ 20 * i)
 
 abbrev μ-loop : tie.MeasureT-loop
 μ-loop w₀ a rs i₀ w i = 8 - i
@@ -51,11 +51,12 @@ loop-again c =
     let l = c .before .before .before .before .loop in
     let done = packCollect (take (l .i) (x .t3)) in
     let next = packRegister (getD (x .t3) (l .i) noRegister) in
-    let here : x .a + 11 * l .i ≡ x .a + length done = omega (arith, l .inv .2) in
-    let more = collect-more (x .t3) (l .i) (omega arith) ∙ ap (λ k. packCollect (take k (x .t3))) (sym (add-one (l .i))) in (
+    let here : x .a + 20 * l .i ≡ x .a + length done = omega (arith, l .inv .2) in
+    let more = chained-more packRegister noRegister (x .t3) (l .i) (omega arith)
+    ∙ ap (λ k. packCollect (take k (x .t3))) (sym (add-one (l .i))) in (
       omega arith,
       c .lay-register .ensures .0
-          ∙ stored-whole (l .w) (getD (x .t3) (l .i) noRegister) (x .a + 11 * l .i) (c .lay-register .ensures .1)
+          ∙ stored-whole (l .w) (getD (x .t3) (l .i) noRegister) (x .a + 20 * l .i) (c .lay-register .ensures .1)
           ∙ (λ i. sets (l .inv .1 i) (here i) next)
           ∙ sets-then (x .w .now) (x .a) done next
           ∙ ap (sets (x .w .now) (x .a)) more,

@@ -15,7 +15,7 @@ use Rattle.packed_stores.proofs.lay_marks.Statement.{statement}
 use Rattle.packed_stores.proofs.lay_marks.Tie as tie
 
 abbrev Inv-loop : tie.InvT-loop
-Inv-loop w₀ ms i₀ w i = (i ≤ 8) × (w ≡ sets w₀ 200 (take i (map packMark ms)))
+Inv-loop w₀ ms i₀ w i = (i ≤ 8) × (w ≡ sets w₀ 361 (take i (map packMark ms)))
 
 abbrev μ-loop : tie.MeasureT-loop
 μ-loop w₀ ms i₀ w i = 8 - i
@@ -51,9 +51,9 @@ loop-again c =
     let ws = map packMark (x .t2) in
     let word = c .mark-word .ensures ∙ sym (getD-map-below packMark (x .t2) (l .i) false 0 (omega arith)) in (
       omega arith,
-      (λ i. set (l .inv .1 i) (200 + l .i) (word i))
-          ∙ sets-more (x .w .now) 200 ws (l .i) (let m = length-map (x .t2) packMark in omega (arith, m))
-          ∙ ap (λ k. sets (x .w .now) 200 (take k ws)) (sym (add-one (l .i))),
+      (λ i. set (l .inv .1 i) (361 + l .i) (word i))
+          ∙ sets-more (x .w .now) 361 ws (l .i) (let m = length-map (x .t2) packMark in omega (arith, m))
+          ∙ ap (λ k. sets (x .w .now) 361 (take k ws)) (sym (add-one (l .i))),
     )
 
 returns : tie.Need-returns Inv-loop μ-loop
@@ -61,7 +61,7 @@ returns c =
     let x = c .before .before .args in
     let l = c .before .loop in
     let m = length-map (x .t2) packMark in
-    l .inv .1 ∙ ap (sets (x .w .now) 200) (take-all (l .i) (map packMark (x .t2)) (omega (arith, m)))
+    l .inv .1 ∙ ap (sets (x .w .now) 361) (take-all (l .i) (map packMark (x .t2)) (omega (arith, m)))
 
 pub lay-marks-spec : {M : Type 1} → statement M
 lay-marks-spec =

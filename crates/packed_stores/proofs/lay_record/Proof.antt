@@ -4,8 +4,8 @@ use mathlib.Core.Path.{sym, ap, _∙_}
 use mathlib.Core.List.{map}
 use lib.ListN.{set, length-map}
 use lib.Seq.{sets, take-all}
-use denote.Struct.Field.{u32-field}
-use Rattle.packed.specs.Packing.{packTask, packCollect, packMark}
+use Rattle.snapshot.proofs.Value as N
+use Rattle.packed.specs.Packing.{packView, packTask, packCollect, packMark}
 use Rattle.packed.proofs.Packing.{register-long}
 use Rattle.packed_stores.proofs.Stored.{sets-record}
 use borrow.Author.Needs.{needs}
@@ -45,14 +45,14 @@ returns c =
     let own = at-own .lay-own .ensures in
     let first = at-first .lay-collect .ensures in
     let second = at-second .lay-collect2 .ensures in
-    let long = sym (length-map (p .view) (u32-field .into)) ∙ start .good .1 .0 .1 .1 .1 .1 .1 .1 .1 .0 .1 .0 .1 in
-    let after-task = at-task .lay-task .ensures ∙ ap (λ l. sets l 11 (packTask (p .task))) (own .0) in
-    let after-first = first .0 ∙ ap (λ l. sets l 15 (packCollect (p .first))) after-task in
-    let after-second = second .0 ∙ ap (λ l. sets l 103 (packCollect (p .second))) after-first in
-    let after-end = at-end .lay-end .ensures ∙ ap (λ l. set l 191 (p .«first_end»)) after-second in
+    let long = sym (length-map (p .view) (N.the-field .into)) ∙ start .good .1 .0 .1 .1 .1 .1 .1 .1 .1 .0 .1 .0 .1 in
+    let after-task = at-task .lay-task .ensures ∙ ap (λ l. sets l 20 (packTask (p .task))) (own .0) in
+    let after-first = first .0 ∙ ap (λ l. sets l 24 (packCollect (p .first))) after-task in
+    let after-second = second .0 ∙ ap (λ l. sets l 184 (packCollect (p .second))) after-first in
+    let after-end = at-end .lay-end .ensures ∙ ap (λ l. set l 344 (p .«first_end»)) after-second in
     let after-view = c .before .before .lay-kept .ensures
-    ∙ (λ i. sets (after-end i) 192 (take-all 8 (p .view) (omega (arith, long)) i)) in
-    c .lay-marks .ensures ∙ ap (λ l. sets l 200 (map packMark (p .moved))) after-view
+    ∙ (λ i. sets (after-end i) 345 (packView (take-all 8 (p .view) (omega (arith, long)) i))) in
+    c .lay-marks .ensures ∙ ap (λ l. sets l 361 (map packMark (p .moved))) after-view
     ∙ sets-record (start .args .w .now) p (register-long (p .register) (own .1)) (first .1) (second .1) long
 
 pub lay-record-spec : {M : Type 1} → statement M

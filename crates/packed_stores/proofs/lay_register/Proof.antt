@@ -4,8 +4,8 @@ use native.Mathlib.Omega.{arith}
 use mathlib.Core.Path.{_≡_, sym, ap, _∙_}
 use lib.ListN.{set, take, length-map}
 use lib.Seq.{sets}
-use denote.Struct.Field.{u32-field}
-use Rattle.packed.specs.Packing.{storedAt}
+use Rattle.snapshot.proofs.Value as N
+use Rattle.packed.specs.Packing.{packView, storedAt}
 use borrow.Author.Needs.{needs}
 use Rattle.packed_stores.proofs.lay_register.Statement.{statement}
 use Rattle.packed_stores.proofs.lay_register.Tie as tie
@@ -25,12 +25,6 @@ mul-w-2 c = search needs
 element-write-w-2 : tie.Need-element-write-w-2
 element-write-w-2 c = search needs
 
-add-lay-words : tie.Need-add-lay-words
-add-lay-words c = search needs
-
-lay-words-requires : tie.Need-lay-words-requires
-lay-words-requires c κs = search needs
-
 add-w-2 : tie.Need-add-w-2
 add-w-2 c = search needs
 
@@ -40,17 +34,35 @@ mul-w-3 c = search needs
 element-write-w-3 : tie.Need-element-write-w-3
 element-write-w-3 c = search needs
 
+add-lay-view : tie.Need-add-lay-view
+add-lay-view c = search needs
+
+lay-view-requires : tie.Need-lay-view-requires
+lay-view-requires c κs = search needs
+
+add-w-3 : tie.Need-add-w-3
+add-w-3 c = search needs
+
+mul-w-4 : tie.Need-mul-w-4
+mul-w-4 c = search needs
+
+element-write-w-4 : tie.Need-element-write-w-4
+element-write-w-4 c = search needs
+
 returns : tie.Need-returns
 unfolding storedAt
 returns c =
-    let start = c .before .before .before in
+    let start = c .before .before .before .before in
     let x = start .args in
-    let long = sym (length-map (x .r .view) (u32-field .into)) ∙ start .good .1 .1 .1 .0 .1 .1 .1 .1 .0 .1 .0 .1 in
+    let v = x .r .value in
+    let view = packView (take (x .n) (x .r .view)) in
+    let long = sym (length-map (x .r .view) (N.the-field .into)) ∙ start .good .1 .1 .1 .0 .1 .1 .1 .1 .0 .1 .0 .1 in
     let one : x .a + 1 ≡ suc (x .a) = omega arith in
     let two : x .a + 2 ≡ suc (suc (x .a)) = omega arith in
-    let w = set (x .w .now) (x .a) (x .r .word) in (
-      ap (λ l. set l (x .a + 10) (x .r .at)) (c .lay-words .ensures)
-          ∙ (λ i. set (sets (set w (one i) (x .r .seq)) (two i) (take (x .n) (x .r .view))) (x .a + 10) (x .r .at)),
+    let three : x .a + 3 ≡ suc (suc (suc (x .a))) = omega arith in
+    let w = set (x .w .now) (x .a) (v .word) in (
+      ap (λ l. set l (x .a + 19) (x .r .at)) (c .lay-view .ensures)
+          ∙ (λ i. set (sets (set (set w (one i) (v .last)) (two i) (x .r .seq)) (three i) view) (x .a + 19) (x .r .at)),
       long,
     )
 
@@ -63,9 +75,12 @@ lay-register-spec =
     add-w
     mul-w-2
     element-write-w-2
-    add-lay-words
-    lay-words-requires
     add-w-2
     mul-w-3
     element-write-w-3
+    add-lay-view
+    lay-view-requires
+    add-w-3
+    mul-w-4
+    element-write-w-4
     returns)

@@ -33,22 +33,22 @@ lay-four-requires-4 c κs = search needs
 returns : tie.Need-returns
 returns c =
     let w = c .before .before .before .before .args .w .now in
-    c .lay-four .ensures ∙ sym (ap (λ k. sets w 11 (packTask k)) (c .before .before .enum-told .given .1))
+    c .lay-four .ensures ∙ sym (ap (λ k. sets w 20 (packTask k)) (c .before .before .enum-told .given .1))
 
 returns-2 : tie.Need-returns-2
 returns-2 c =
     let w = c .before .before .before .before .before .args .w .now in
-    c .lay-four2 .ensures ∙ sym (ap (λ k. sets w 11 (packTask k)) (c .before .before .before .k .given .1))
+    c .lay-four2 .ensures ∙ sym (ap (λ k. sets w 20 (packTask k)) (c .before .before .before .k .given .1))
 
 returns-3 : tie.Need-returns-3
 returns-3 c =
     let w = c .before .before .before .before .before .args .w .now in
-    c .lay-four3 .ensures ∙ sym (ap (λ k. sets w 11 (packTask k)) (c .before .before .before .k2 .given .1))
+    c .lay-four3 .ensures ∙ sym (ap (λ k. sets w 20 (packTask k)) (c .before .before .before .k2 .given .1))
 
 returns-4 : tie.Need-returns-4
 returns-4 c =
     let w = c .before .before .before .before .before .args .w .now in
-    c .lay-four4 .ensures ∙ sym (ap (λ k. sets w 11 (packTask k)) (c .before .before .before .k3 .given .1))
+    c .lay-four4 .ensures ∙ sym (ap (λ k. sets w 20 (packTask k)) (c .before .before .before .k3 .given .1))
 
 pub lay-task-spec : {M : Type 1} → statement M
 lay-task-spec =

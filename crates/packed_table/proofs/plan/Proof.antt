@@ -103,7 +103,7 @@ returns-2 c page q =
     let i = c .before .before .before .before .index-in in
     let idle = c .before .is-idle .ensures
     ∙ ap isIdle (c .before .before .task-in .ensures
-    ∙ ap (λ j. unpackTask (drop 11 (getD t j []))) (i .ensures)
+    ∙ ap (λ j. unpackTask (drop 20 (getD t j []))) (i .ensures)
     ∙ task-is t (numberIn (a .x) - 1) (omega arith)) in
     c .last-check .ensures
     ∙ (λ j. lastRefusal (s j) (a .x) (idle j))

@@ -6,9 +6,10 @@ use mathlib.Core.Path.{_≡_, refl, sym, ap, _∙_}
 use mathlib.Core.List.{map}
 use lib.ListN.{take, set, replicate}
 use lib.Seq.{sets}
+use Rattle.snapshot.specs.Values.{zeroValue}
 use Rattle.snapshot.specs.Marks.{noneMoved}
 use Rattle.unbounded_turns.specs.Steps.{begunBy}
-use Rattle.packed.specs.Packing.{storedAt, packMark}
+use Rattle.packed.specs.Packing.{packView, storedAt, packMark}
 use Rattle.packed_turns.proofs.Begun.{placedTo, begun-words}
 use borrow.Author.Needs.{needs}
 use Rattle.packed_turns.proofs.begin.Statement.{statement}
@@ -62,8 +63,8 @@ loop-again c =
     let z = at-none .no-register .result in (
       omega arith,
       c .lay-place2 .ensures .0
-          ∙ ap (storedAt n z (15 + 11 * (8 + l .i)))
-          (c .before .before .lay-place .ensures .0 ∙ ap (storedAt n z (15 + 11 * l .i)) (l .inv .1))
+          ∙ ap (storedAt n z (24 + 20 * (8 + l .i)))
+          (c .before .before .lay-place .ensures .0 ∙ ap (storedAt n z (24 + 20 * l .i)) (l .inv .1))
           ∙ ap (λ k. placedTo n z k (at-kept .lay-kept .last .0)) (sym (add-one (l .i))),
     )
 
@@ -80,9 +81,9 @@ returns c =
     let x = start .args in
     let n = x .a .n in
     let all : l .i ≡ n = omega arith in
-    let marked = at-marks .lay-marks .ensures ∙ ap (λ ws. sets ws 200 (map packMark noneMoved)) (at-task .lay-task .ensures) in
-    let ended = at-end .lay-end .ensures ∙ ap (λ ws. set ws 191 0) marked in
-    let kept = at-kept .lay-kept .ensures ∙ ap (λ ws. sets ws 192 (take n (replicate 8 0))) ended in
+    let marked = at-marks .lay-marks .ensures ∙ ap (λ ws. sets ws 361 (map packMark noneMoved)) (at-task .lay-task .ensures) in
+    let ended = at-end .lay-end .ensures ∙ ap (λ ws. set ws 344 0) marked in
+    let kept = at-kept .lay-kept .ensures ∙ ap (λ ws. sets ws 345 (packView (take n (replicate 8 zeroValue)))) ended in
     l .inv .1 ∙ (λ t. placedTo n (at-none .no-register .ensures t) (all t) (kept t))
     ∙ begun-words (x .w .now) n (start .pre .small) (x .k)
 

@@ -2,7 +2,7 @@
 use mathlib.Core.Path.{_≡_, sym, ap, _∙_}
 use lib.ListN.{length, length-map}
 use lib.Seq.{sets}
-use denote.Struct.Field.{u32-field}
+use Rattle.snapshot.proofs.Value as N
 use Rattle.unbounded_finds.specs.Finds.{findOf}
 use Rattle.unbounded_turns.specs.Steps.{withTask, begunBy, stateBy}
 use Rattle.unbounded_turns.proofs.Steps.{state-went-on}
@@ -72,10 +72,10 @@ returns-2 c =
     let goes-on = sym (at-ends .ends .ensures) ∙ at-read .before .before .if1 .left in
     let task = c .before .task-after in
     let view : length (q .result .register .view) ≡ 8 =
-    sym (length-map (q .result .register .view) (u32-field .into)) ∙ q .ok .1 .1 .0 .1 .1 .1 .1 .0 .1 .0 .1 in (
+    sym (length-map (q .result .register .view) (N.the-field .into)) ∙ q .ok .1 .1 .0 .1 .1 .1 .1 .0 .1 .0 .1 in (
       found,
       c .lay-task .ensures
-          ∙ ap (λ l. sets l 11 (packTask (task .result))) (c .before .before .before .lay-record .ensures)
+          ∙ ap (λ l. sets l 20 (packTask (task .result))) (c .before .before .before .lay-record .ensures)
           ∙ task-laid ws (q .result) (task .result) view
           ∙ (λ i. packedOver ws (withTask (task .ensures i) (q .ensures i)))
           ∙ ap (packedOver ws) (state-went-on (x .a) (x .r) (p .result) f (x .k) goes-on)

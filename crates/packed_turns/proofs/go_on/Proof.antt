@@ -55,11 +55,11 @@ returns c =
     let a = x .a in
     let task = at-task .before .task-after .ensures ∙ ap (λ f. taskBy f (x .k)) (at-task .before .before .nothing-found .ensures) in
     let end = at-last .end-of .ensures ∙ ap (endAfter (a .n) (a .pos) (a .now)) (at-last .before .end-in .ensures) in
-    let laid = at-task .lay-task .ensures ∙ ap (λ k. sets (x .w .now) 11 (packTask k)) task in
-    let marked = at-marks .lay-marks .ensures ∙ (λ i. sets (laid i) 200 (map packMark (at-moved .marks-in .ensures i))) in
-    let ended = at-end .lay-end .ensures ∙ (λ i. set (marked i) 191 (end i)) in
+    let laid = at-task .lay-task .ensures ∙ ap (λ k. sets (x .w .now) 20 (packTask k)) task in
+    let marked = at-marks .lay-marks .ensures ∙ (λ i. sets (laid i) 361 (map packMark (at-moved .marks-in .ensures i))) in
+    let ended = at-end .lay-end .ensures ∙ (λ i. set (marked i) 344 (end i)) in
     c .lay-place .ensures .0
-    ∙ (λ i. storedAt (a .n) (x .r) (15 + 11 * c .before .place-in .ensures .0 i) (ended i))
+    ∙ (λ i. storedAt (a .n) (x .r) (24 + 20 * c .before .place-in .ensures .0 i) (ended i))
     ∙ went-on a (start .pre .0) (x .r) (c .lay-place .ensures .1) (x .w .now) (x .k) (start .pre .2)
 
 pub go-on-spec : {M : Type 1} → statement M

@@ -16,14 +16,11 @@ slice-aggregate-field c = search needs
 field-requires : tie.Need-field-requires
 field-requires c κs = search needs
 
-slice-aggregate-bytes : tie.Need-slice-aggregate-bytes
-slice-aggregate-bytes c = search needs
+slice-aggregate-named-numbers : tie.Need-slice-aggregate-named-numbers
+slice-aggregate-named-numbers c = search needs
 
-bytes-requires : tie.Need-bytes-requires
-bytes-requires c κs = search needs
-
-numbers-requires : tie.Need-numbers-requires
-numbers-requires c κs = search needs
+named-numbers-requires : tie.Need-named-numbers-requires
+named-numbers-requires c κs = search needs
 
 same-length : tie.Need-same-length
 same-length c = search needs
@@ -31,13 +28,11 @@ same-length c = search needs
 returns : tie.Need-returns
 unfolding bodyOf
 returns c =
-    let at-numbers = c .before .before in
-    let at-words = at-numbers .before .before .before .before in
+    let at-words = c .before .before in
     let at-field = at-words .before .before .before .before .before in
     let at-number = at-field .before .before .before .before .before in
     let process = in-turn (omega arith) (at-number .number .ensures .0) (at-field .field .ensures .0) in
-    let words = in-turn (omega arith) process (at-words .bytes .ensures) in
-    let all = in-turn (omega arith) words (at-numbers .numbers .ensures .0) in
+    let all = in-turn (omega arith) process (at-words .named-numbers .ensures .0) in
     (simp append-assoc at all, search needs)
 
 pub book-page-spec : {M : Type 1} → statement M
@@ -47,8 +42,7 @@ book-page-spec =
     number-requires
     slice-aggregate-field
     field-requires
-    slice-aggregate-bytes
-    bytes-requires
-    numbers-requires
+    slice-aggregate-named-numbers
+    named-numbers-requires
     same-length
     returns)

@@ -14,15 +14,15 @@ use Rattle.pagetext.proofs.page.Statement.{statement}
 use Rattle.pagetext.proofs.page.Tie as tie
 
 -- the parts, as they are laid
-page-text : (e p l i t : ℕ) (ws : List ℕ)
+page-text : (e p l i t : ℕ) (ws es : List ℕ)
     → decimal e ++ (ascii " page " ++ decimal p) ++ (ascii " from " ++ decimal l)
     ++ (ascii " at " ++ decimal i)
     ++ (ascii " turns " ++ decimal t)
-    ++ ascii " words"
-    ++ spaced (map decimal ws)
-    ≡ bodyOf (Page e p l i t) ws
+    ++ (ascii " words" ++ spaced (map decimal ws))
+    ++ (ascii " last" ++ spaced (map decimal es))
+    ≡ bodyOf (Page e p l i t) ws es
 unfolding bodyOf
-page-text e p l i t ws = simp append-assoc
+page-text e p l i t ws es = simp append-assoc
 
 lent-requires : tie.Need-lent-requires
 lent-requires c κs = search needs
@@ -39,25 +39,28 @@ slice-aggregate-field-2 c = search needs
 field-requires-2 : tie.Need-field-requires-2
 field-requires-2 c κs = search needs
 
-slice-aggregate-bytes : tie.Need-slice-aggregate-bytes
-slice-aggregate-bytes c = search needs
+slice-aggregate-named-numbers : tie.Need-slice-aggregate-named-numbers
+slice-aggregate-named-numbers c = search needs
 
-bytes-requires : tie.Need-bytes-requires
-bytes-requires c κs = search needs
+named-numbers-requires : tie.Need-named-numbers-requires
+named-numbers-requires c κs = search needs
 
-numbers-requires : tie.Need-numbers-requires
-numbers-requires c κs = search needs
+slice-aggregate-named-numbers-2 : tie.Need-slice-aggregate-named-numbers-2
+slice-aggregate-named-numbers-2 c = search needs
+
+named-numbers-requires-2 : tie.Need-named-numbers-requires-2
+named-numbers-requires-2 c κs = search needs
 
 same-length : tie.Need-same-length
 same-length c = search needs
 
 -- the places after each call, from the last to the first
 module _ (c : tie.After-slice-known6) where
-  abbrev at-numbers : tie.After-numbers
-  at-numbers = c .before .before
+  abbrev at-lasts : tie.After-named-numbers2
+  at-lasts = c .before .before
 
-  abbrev at-words : tie.After-bytes
-  at-words = at-numbers .before .before .before .before
+  abbrev at-words : tie.After-named-numbers
+  at-words = at-lasts .before .before .before .before .before
 
   abbrev at-turns : tie.After-field2
   at-turns = at-words .before .before .before .before .before
@@ -72,8 +75,8 @@ returns : tie.Need-returns
 returns c =
     let instant = in-turn (omega arith) (at-lender c .lent .ensures .0) (at-instant c .field .ensures .0) in
     let turns = in-turn (omega arith) instant (at-turns c .field2 .ensures .0) in
-    let words = in-turn (omega arith) turns (at-words c .bytes .ensures) in
-    (laid-as (page-text _ _ _ _ _ _) (in-turn (omega arith) words (at-numbers c .numbers .ensures .0)), search needs)
+    let words = in-turn (omega arith) turns (at-words c .named-numbers .ensures .0) in
+    (laid-as (page-text _ _ _ _ _ _ _) (in-turn (omega arith) words (at-lasts c .named-numbers2 .ensures .0)), search needs)
 
 pub page-spec : {M : Type 1} → statement M
 page-spec =
@@ -84,8 +87,9 @@ page-spec =
     field-requires
     slice-aggregate-field-2
     field-requires-2
-    slice-aggregate-bytes
-    bytes-requires
-    numbers-requires
+    slice-aggregate-named-numbers
+    named-numbers-requires
+    slice-aggregate-named-numbers-2
+    named-numbers-requires-2
     same-length
     returns)

@@ -36,13 +36,17 @@ returns-3 c =
       ne-eqb _ _ (c .before .before .before .before .if1 .left),
     )
 
+plan-with-requires : tie.Need-plan-with-requires
+plan-with-requires c κs = search needs
+
 returns-4 : tie.Need-returns-4
 returns-4 c =
     simp (
-      ← c .before .is-cramped .ensures,
-      c .if3 .left,
-      eq-eqb _ _ (c .before .before .if2 .left),
-      ne-eqb _ _ (c .before .before .before .if1 .left),
+      c .plan-with .ensures,
+      ← c .before .before .is-cramped .ensures,
+      c .before .if3 .left,
+      eq-eqb _ _ (c .before .before .before .if2 .left),
+      ne-eqb _ _ (c .before .before .before .before .if1 .left),
     )
 
 pub planned-spec : {M : Type 1} → statement M
@@ -57,4 +61,5 @@ planned-spec =
     is-cramped-requires
     refused-requires-3
     returns-3
+    plan-with-requires
     returns-4)

@@ -17,7 +17,8 @@ use borrow.Author.Tests.{not-true, not-false}
 use Rattle.dayfile.specs.declared.Reading.{Reading}
 use Rattle.unbounded.specs.Processes.{zeroProcess}
 use Rattle.days.specs.Asking.{requestOf}
-use Rattle.memory.proofs.Types.{a-process, a-day, a-request, an-outcome}
+use Rattle.unbounded_own.proofs.Types.{a-process}
+use Rattle.memory.proofs.Types.{a-day, a-request, an-outcome}
 use Rattle.days.proofs.Data.{a-reading}
 use Rattle.days.proofs.Kept.{lentTo-le}
 use Rattle.book.specs.declared.notes.Notes.{Notes}

@@ -17,7 +17,7 @@ unfolding canGo
 returns-2 c =
     let a = c .before .before .before .before .args in
     let l = c .if2 .taken in
-    rw (lt-leb (a .at .written + 256) (a .room) (omega arith))
+    rw (lt-leb (a .at .written + 272) (a .room) (omega arith))
 
 returns-3 : tie.Need-returns-3
 unfolding canGo
@@ -25,7 +25,7 @@ returns-3 c =
     let a = c .before .before .before .before .before .before .args in
     let l = c .if3 .taken in
     let m = c .before .before .if2 .left in
-    rw (lt-leb (a .at .written + 256) (a .room) (omega arith))
+    rw (lt-leb (a .at .written + 272) (a .room) (omega arith))
 
 returns-4 : tie.Need-returns-4
 unfolding canGo
@@ -33,7 +33,7 @@ returns-4 c =
     let a = c .before .before .before .before .before .before .before .args in
     let l = c .before .if3 .left in
     let m = c .before .before .before .if2 .left in
-    rw (le-leb (a .at .written + 256) (a .room) (omega arith), c .before .before .before .before .before .if1 .left, c .if4 .taken)
+    rw (le-leb (a .at .written + 272) (a .room) (omega arith), c .before .before .before .before .before .if1 .left, c .if4 .taken)
 
 returns-5 : tie.Need-returns-5
 unfolding canGo
@@ -43,7 +43,7 @@ returns-5 c =
     let l = c .before .before .before .if3 .left in
     let m = at-if2 .if2 .left in
     let k = c .if5 .taken in
-    let room = le-leb (a .at .written + 256) (a .room) (omega arith) in
+    let room = le-leb (a .at .written + 272) (a .room) (omega arith) in
     let none = lt-leb 10 (a .at .input .end - a .at .input .at) (omega arith) in
     rw (room, at-if2 .before .before .if1 .left, c .before .before .if4 .left, none)
 
@@ -54,7 +54,7 @@ returns-6 c =
     let a = at-if2 .before .before .before .before .args in
     let l = c .before .before .before .before .if3 .left in
     let m = at-if2 .if2 .left in
-    let room = le-leb (a .at .written + 256) (a .room) (omega arith) in
+    let room = le-leb (a .at .written + 272) (a .room) (omega arith) in
     sym (rw (room, at-if2 .before .before .if1 .left, c .before .before .before .if4 .left))
 
 pub can-go-spec : {M : Type 1} → statement M

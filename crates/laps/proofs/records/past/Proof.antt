@@ -3,13 +3,13 @@ use Prim.Native.Nat.{ℕ}
 use mathlib.Core.Path.{_≡_, refl, sym, ap, ap₂, _∙_}
 use mathlib.Core.List.{[], _∷_}
 use native.Mathlib.Omega.{arith}
-use lib.ListN.{take}
 use types.Run.{OneOf, miss}
 use denote.Enum.Declared.{tagOf}
 use Rattle.snapshot.specs.declared.Day.{Day}
 use Rattle.dayfile.proofs.Reading as X
 use Rattle.dayfile.specs.declared.Reading.{Reading}
 use Rattle.dayfile.specs.declared.Reading.the-variants.{Found, End, Refused}
+use Rattle.snapshot.specs.Values.{wordsIn, lastsIn}
 use Rattle.daytext.specs.Buffer.{laidPlace}
 use Rattle.laps.specs.declared.records.Progress.{Progress}
 use Rattle.daylines.specs.Printed.{lineOf, isEnd}
@@ -65,7 +65,8 @@ returns-2 c =
     let a = c .before .before .before .before .before .before .before .before .before .before .before .before .args in
     let lay = c .before .before .before .before .before .before .lay .ensures in
     let k = c .before .before .x .given in
-    let w = laidPlace (lineOf (a .o) (a .x)) (take (a .o .day .count) (a .page .now)) (a .out .now) (a .at .written) in (
+    let n = a .o .day .count in
+    let w = laidPlace (lineOf (a .o) (a .x)) (wordsIn n (a .page .now)) (lastsIn n (a .page .now)) (a .out .now) (a .at .written) in (
       ap (λ v. progressPast (a .at) (a .o .day) v (Found (k .0 .0) (k .0 .1 .0))) (lay .0)
           ∙ sym (ap (progressPast (a .at) (a .o .day) w) (k .1)),
       lay .1,

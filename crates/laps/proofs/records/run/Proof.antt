@@ -17,7 +17,8 @@ use Rattle.laps.specs.declared.records.Running.{Running}
 use Rattle.days.specs.Asking.{requestOf}
 use Rattle.laps.specs.Laps.{ran}
 use Rattle.laps.specs.Progress.{Takes, nextIn, canGo, linesLeft, CanLay, standAt, standOf}
-use Rattle.memory.proofs.Types.{a-process, a-day, a-request, an-outcome}
+use Rattle.unbounded_own.proofs.Types.{a-process}
+use Rattle.memory.proofs.Types.{a-day, a-request, an-outcome}
 use Rattle.days.proofs.Data.{a-reading}
 use Rattle.days.proofs.Kept.{lentTo-le}
 use Rattle.laps.proofs.Data.{a-table, a-progress, a-running, its-day, its-progress, its-table}

@@ -9,9 +9,9 @@ use Rattle.walks.proofs.Walking.{calls-element, unit-stored, ends-lent, callee,
 use Rattle.unbounded.specs.Processes.{noProcess}
 use Rattle.unbounded_accesses.specs.Accesses.{Sound}
 use Rattle.unbounded_turns.specs.Steps.{begunBy}
-use Rattle.memory.proofs.Types.{a-process, a-task, an-access}
-use Rattle.memory.proofs.elements.begin_own as begin-own
-use Rattle.memory.proofs.elements.begin_own.Met as begin-own-met
+use Rattle.unbounded_own.proofs.Types.{a-process, a-task, an-access}
+use Rattle.unbounded_own.proofs.begin_own as begin-own
+use Rattle.unbounded_own.proofs.begin_own.Met as begin-own-met
 use Rattle.memory.proofs.elements.begin_at.Key.{name as #f}
 use Rattle.memory.proofs.elements.begin_at as f
 use Rattle.memory.proofs.elements.begin_at.Statement as stated
@@ -25,7 +25,7 @@ unfolding code.routine
 begin-at-spec 𝓤 H 𝓜 𝓖 𝓡 =
     let c = f.clauses 𝓤 H (𝓖 .A) (𝓜 .mem) (𝓡 .run) in
     let begin-own-is = callee 𝓤 H 𝓜 𝓖 𝓡 code.env (own 0 tt a-process ∷ value an-access ∷ value a-task ∷ []) a-unit
-    code.calls-memory·elements·begin-own
+    code.calls-unbounded-own·begin-own
     (begin-own.clauses 𝓤 H (𝓖 .A) (𝓜 .mem) (𝓡 .run)) (λ κs a. tt) (begin-own-met.met 𝓤 H 𝓜 𝓖 𝓡) in
     thin ps a-unit 𝓤 H 𝓜 𝓖 𝓡 code.env c _ _ #f (code.unfolded 𝓤 H 𝓜 𝓡) (λ κs qs a h are bs.
     let x = a .0 in

@@ -3,7 +3,7 @@ use mathlib.Core.Path.{refl}
 use Rattle.walks.proofs.Fills.{fill-params, fill-callee, fills}
 use Rattle.walks.proofs.Walking.{a-unit, thin, callee, asks-nothing, given, id⊢}
 use Rattle.unbounded.specs.Processes.{zeroProcess}
-use Rattle.memory.proofs.Types.{a-process}
+use Rattle.unbounded_own.proofs.Types.{a-process}
 use Rattle.unbounded_turns.proofs.records.zero as zero
 use Rattle.unbounded_turns.proofs.records.zero.Met as zero-met
 use Rattle.memory.proofs.elements.clear_all.Key.{name as #f}

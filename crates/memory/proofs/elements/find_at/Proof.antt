@@ -8,7 +8,7 @@ use Rattle.walks.proofs.Walking.{copies-element, gets, ends-shared, callee, giv
 use Rattle.unbounded.specs.Processes.{noProcess}
 use Rattle.unbounded_accesses.specs.Accesses.{Sound}
 use Rattle.unbounded_finds.specs.Finds.{findOf}
-use Rattle.memory.proofs.Types.{a-process, a-register, an-access, a-find}
+use Rattle.unbounded_own.proofs.Types.{a-process, a-register, an-access, a-find}
 use Rattle.unbounded_finds.proofs.finds.find_page as finds
 use Rattle.unbounded_finds.proofs.finds.find_page.Met as finds-met
 use Rattle.memory.proofs.elements.find_at.Key.{name as #f}

@@ -3,7 +3,7 @@ use mathlib.Core.Path.{refl}
 use Rattle.walks.proofs.ElementRead.{element-params, element-callee, element-read}
 use Rattle.walks.proofs.Walking.{a-bool, thin, callee, asks-nothing, given, id⊢}
 use Rattle.unbounded.specs.Processes.{noProcess, isIdle}
-use Rattle.memory.proofs.Types.{a-process}
+use Rattle.unbounded_own.proofs.Types.{a-process}
 use Rattle.unbounded_turns.proofs.records.rests as rests
 use Rattle.unbounded_turns.proofs.records.rests.Met as rests-met
 use Rattle.memory.proofs.elements.rests_at.Key.{name as #f}

@@ -4,7 +4,8 @@ use Rattle.walks.proofs.Folds.{fold-params, fold-callee, folds}
 use Rattle.walks.proofs.Walking.{thin, callee, asks-nothing, given, id⊢}
 use Rattle.unbounded.specs.Processes.{noProcess}
 use Rattle.unbounded_surveys.specs.Surveys.{surveyedBy}
-use Rattle.memory.proofs.Types.{a-process, a-survey}
+use Rattle.unbounded_own.proofs.Types.{a-process}
+use Rattle.memory.proofs.Types.{a-survey}
 use Rattle.unbounded_surveys.proofs.surveys.surveyed as surveyed
 use Rattle.unbounded_surveys.proofs.surveys.surveyed.Met as surveyed-met
 use Rattle.memory.proofs.elements.survey.Key.{name as #f}

@@ -3,7 +3,7 @@ use mathlib.Core.Path.{refl}
 use Rattle.walks.proofs.ElementRead.{element-params, element-callee, element-read}
 use Rattle.walks.proofs.Walking.{thin, callee, asks-nothing, given, id⊢}
 use Rattle.unbounded.specs.Processes.{noProcess}
-use Rattle.memory.proofs.Types.{a-process, a-task}
+use Rattle.unbounded_own.proofs.Types.{a-process, a-task}
 use Rattle.unbounded_turns.proofs.records.task_of as task
 use Rattle.unbounded_turns.proofs.records.task_of.Met as task-met
 use Rattle.memory.proofs.elements.task_at.Key.{name as #f}

@@ -8,10 +8,10 @@ use Rattle.walks.proofs.Walking.{finds-element, lends-element}
 use Rattle.walks.proofs.Walking.{calls-element, unit-stored, ends-lent, callee, given, unit-said, id⊢}
 use Rattle.unbounded.specs.Processes.{noProcess}
 use Rattle.unbounded_turns.specs.Steps.{stateBy}
-use Rattle.memory.specs.Turning.{Turning}
-use Rattle.memory.proofs.Types.{a-process, a-register, an-access, a-find}
-use Rattle.memory.proofs.elements.turn_own as turn-own
-use Rattle.memory.proofs.elements.turn_own.Met as turn-own-met
+use Rattle.unbounded_own.specs.Turning.{Turning}
+use Rattle.unbounded_own.proofs.Types.{a-process, a-register, an-access, a-find}
+use Rattle.unbounded_own.proofs.turn_own as turn-own
+use Rattle.unbounded_own.proofs.turn_own.Met as turn-own-met
 use Rattle.memory.proofs.elements.turn_at.Key.{name as #f}
 use Rattle.memory.proofs.elements.turn_at as f
 use Rattle.memory.proofs.elements.turn_at.Statement as stated
@@ -25,7 +25,7 @@ unfolding code.routine
 turn-at-spec 𝓤 H 𝓜 𝓖 𝓡 =
     let c = f.clauses 𝓤 H (𝓖 .A) (𝓜 .mem) (𝓡 .run) in
     let turn-own-is = callee 𝓤 H 𝓜 𝓖 𝓡 code.env (own 0 tt a-process ∷ value an-access ∷ value a-register ∷ value a-find ∷ [])
-    a-unit code.calls-memory·elements·turn-own
+    a-unit code.calls-unbounded-own·turn-own
     (turn-own.clauses 𝓤 H (𝓖 .A) (𝓜 .mem) (𝓡 .run)) (λ κs a. tt) (turn-own-met.met 𝓤 H 𝓜 𝓖 𝓡) in
     thin ps a-unit 𝓤 H 𝓜 𝓖 𝓡 code.env c _ _ #f (code.unfolded 𝓤 H 𝓜 𝓡) (λ κs qs a h are bs.
     let x = a .0 in

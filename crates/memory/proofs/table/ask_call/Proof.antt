@@ -10,7 +10,8 @@ use Rattle.admission.specs.Checks.{asOption, isRefusal}
 use Rattle.admission.specs.Outcomes.{refusedOutcome}
 use Rattle.admission.proofs.Checked.{passed-none}
 use Rattle.memory.specs.Tables.{stateOf, outcomeOf, acceptedIn, RefusedBy}
-use Rattle.memory.proofs.Types.{a-process, a-check, a-day, a-request, an-outcome}
+use Rattle.unbounded_own.proofs.Types.{a-process}
+use Rattle.memory.proofs.Types.{a-check, a-day, a-request, an-outcome}
 use Rattle.memory.proofs.Accepted.{call-item, stepped-refused, stepped-accepted}
 use Rattle.requests.proofs.no_words as no-words
 use Rattle.requests.proofs.no_words.Met as no-words-met

@@ -16,7 +16,8 @@ use Rattle.unbounded_tasks.specs.Tasks.{taskFor}
 use Rattle.requests.specs.Requests.{itemOf, isCall}
 use Rattle.admission.specs.Outcomes.{acceptedOutcome}
 use Rattle.memory.specs.Tables.{stateOf, refusalIn}
-use Rattle.memory.proofs.Types.{a-process, a-task, an-access, a-day, a-request, an-outcome}
+use Rattle.unbounded_own.proofs.Types.{a-process, a-task, an-access}
+use Rattle.memory.proofs.Types.{a-day, a-request, an-outcome}
 use Rattle.memory.proofs.Accepted.{call-item, admits, admits-day, admits-inside, called-leaves}
 use Rattle.unbounded_accesses.proofs.accesses.call_access as goes-by
 use Rattle.unbounded_accesses.proofs.accesses.call_access.Met as goes-by-met

@@ -12,7 +12,8 @@ use Rattle.admission.specs.Checks.{asOption, isRefusal, openingRefusal}
 use Rattle.admission.specs.Outcomes.{refusedOutcome, openedOutcome}
 use Rattle.admission.proofs.Checked.{passed-none}
 use Rattle.memory.specs.Tables.{stateOf, outcomeOf}
-use Rattle.memory.proofs.Types.{a-process, a-check, a-day, an-outcome}
+use Rattle.unbounded_own.proofs.Types.{a-process}
+use Rattle.memory.proofs.Types.{a-check, a-day, an-outcome}
 use Rattle.memory.proofs.Accepted.{opening-refused, stepped-refused, stepped-accepted, opened-leaves}
 use Rattle.admission.proofs.checks.opening_check as check
 use Rattle.admission.proofs.checks.opening_check.Met as check-met

@@ -13,7 +13,8 @@ use Rattle.unbounded_surveys.specs.Surveys.{surveyOf, surveyedBy}
 use Rattle.requests.specs.Requests.{isOpening}
 use Rattle.admission.specs.Checks.{asOption, isRefusal, firstRefusal, lastRefusal}
 use Rattle.admission.proofs.Checked.{passed-none}
-use Rattle.memory.proofs.Types.{a-process, a-survey, a-check, a-day, a-request}
+use Rattle.unbounded_own.proofs.Types.{a-process}
+use Rattle.memory.proofs.Types.{a-survey, a-check, a-day, a-request}
 use Rattle.memory.proofs.Accepted.{plan-refuses, plan-number, plan-inside, plan-last}
 use Rattle.unbounded_surveys.proofs.surveys.survey_of as limits
 use Rattle.unbounded_surveys.proofs.surveys.survey_of.Met as limits-met

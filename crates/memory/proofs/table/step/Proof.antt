@@ -14,7 +14,8 @@ use Rattle.admission.specs.Checks.{asOption, isRefusal}
 use Rattle.admission.specs.Outcomes.{refusedOutcome}
 use Rattle.admission.proofs.Checked.{passed-none}
 use Rattle.memory.specs.Tables.{stateOf, outcomeOf, refusalIn, acceptedIn, RefusedBy}
-use Rattle.memory.proofs.Types.{a-process, a-check, a-day, a-request, an-outcome}
+use Rattle.unbounded_own.proofs.Types.{a-process}
+use Rattle.memory.proofs.Types.{a-check, a-day, a-request, an-outcome}
 use Rattle.memory.proofs.Accepted.{call-same, opening-item, after-opening, after-call, after-turn, after-refusal}
 use Rattle.memory.proofs.Accepted.{stepped-refused, stepped-accepted}
 use Rattle.requests.proofs.is_opening as is-opening

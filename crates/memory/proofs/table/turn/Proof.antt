@@ -7,7 +7,8 @@ use Rattle.snapshot.specs.Days.{turnOf}
 use Rattle.snapshot.specs.declared.Request.the-variants.{Turn}
 use Rattle.unbounded.specs.Days.{stepped}
 use Rattle.memory.specs.Tables.{stateOf, outcomeOf}
-use Rattle.memory.proofs.Types.{a-process, a-day, a-request, an-outcome}
+use Rattle.unbounded_own.proofs.Types.{a-process}
+use Rattle.memory.proofs.Types.{a-day, a-request, an-outcome}
 use Rattle.requests.proofs.turn as makes
 use Rattle.requests.proofs.turn.Met as makes-met
 use Rattle.memory.proofs.table.step as steps

@@ -22,7 +22,8 @@ use Rattle.requests.specs.Requests.{itemOf, isOpening, isCall}
 use Rattle.admission.specs.Outcomes.{acceptedOutcome}
 use Rattle.memory.specs.Tables.{stateOf, refusalIn}
 use Rattle.memory.specs.Turning.{readAt, foundAt}
-use Rattle.memory.proofs.Types.{a-process, a-task, a-day, a-request, an-outcome}
+use Rattle.unbounded_own.proofs.Types.{a-process, a-task}
+use Rattle.memory.proofs.Types.{a-day, a-request, an-outcome}
 use Rattle.memory.proofs.Accepted.{admits, turn-at, page-fits, write-leaves, read-leaves}
 use Rattle.requests.proofs.index_in as index
 use Rattle.requests.proofs.index_in.Met as index-met

@@ -14,7 +14,8 @@ use Rattle.unbounded_turns.specs.Steps.{stateBy}
 use Rattle.unbounded_tasks.specs.Tasks.{answerBy}
 use Rattle.admission.specs.Outcomes.{acceptedOutcome}
 use Rattle.memory.specs.Turning.{TurnAt}
-use Rattle.memory.proofs.Types.{a-process, a-register, a-task, an-access, a-find, a-day, an-answer, an-outcome}
+use Rattle.unbounded_own.proofs.Types.{a-process, a-register, a-task, an-access, a-find}
+use Rattle.memory.proofs.Types.{a-day, an-answer, an-outcome}
 use Rattle.unbounded_accesses.proofs.accesses.access_of as access
 use Rattle.unbounded_accesses.proofs.accesses.access_of.Met as access-met
 use Rattle.unbounded_finds.proofs.finds.nothing_found as nothing

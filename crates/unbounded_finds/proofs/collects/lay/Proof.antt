@@ -4,12 +4,12 @@ use borrow.Author.Needs.{needs}
 use Rattle.unbounded_finds.proofs.collects.lay.Statement.{statement}
 use Rattle.unbounded_finds.proofs.collects.lay.Tie as tie
 
-over-words-requires : tie.Need-over-words-requires
-over-words-requires c κs = search needs
+over-values-requires : tie.Need-over-values-requires
+over-values-requires c κs = search needs
 
 returns : tie.Need-returns
 unfolding laid
-returns c = rw (c .over-words .ensures)
+returns c = rw (c .before .over-values .ensures)
 
 pub lay-spec : {M : Type 1} → statement M
-lay-spec = tie.close (tie.spec over-words-requires returns)
+lay-spec = tie.close (tie.spec over-values-requires returns)

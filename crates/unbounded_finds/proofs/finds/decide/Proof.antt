@@ -14,15 +14,15 @@ use Rattle.unbounded_finds.proofs.finds.decide.Tie as tie
 first-moved-requires : tie.Need-first-moved-requires
 first-moved-requires c κs = search needs
 
-words-requires : tie.Need-words-requires
-words-requires c κs = search needs
+values-requires : tie.Need-values-requires
+values-requires c κs = search needs
 
 returns : tie.Need-returns
 returns c =
     let a = c .before .before .before .args in
     let d = differs ascending (a .a) (a .t4) in
     let first = c .before .before .first-moved .ensures in
-    rw (c .words .ensures)
+    rw (c .values .ensures)
     (sym (ap (λ v. decisionFind (a .n) (a .end) (a .t4) (some v))
     (verdict-clean (a .n) d (lends d (a .moved)) (sym first ∙ c .before .if1 .taken))))
 
@@ -69,7 +69,7 @@ decide-spec =
     tie.close
     (tie.spec
     first-moved-requires
-    words-requires
+    values-requires
     returns
     first-lender-requires
     nothing-requires

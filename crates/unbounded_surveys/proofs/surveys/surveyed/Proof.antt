@@ -18,8 +18,9 @@ returns c =
     let a = c .before .before .args in
     let seq = a .p .register .seq in
     let at = a .p .register .at in
-    c .register-seen .ensures ∙ ap (λ s. registerSeen s seq at) (c .before .task-seen .ensures)
-    ∙ task-first (a .s) (a .p .task) seq at
+    let last = a .p .register .value .last in
+    c .register-seen .ensures ∙ ap (λ s. registerSeen s seq at last) (c .before .task-seen .ensures)
+    ∙ task-first (a .s) (a .p .task) seq at last
 
 pub surveyed-spec : {M : Type 1} → statement M
 surveyed-spec = tie.close (tie.spec task-seen-requires register-seen-requires returns)

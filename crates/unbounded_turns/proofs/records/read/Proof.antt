@@ -8,6 +8,7 @@ use mathlib.Core.List.{List}
 use native.Mathlib.Omega.{arith}
 use lib.ListN.{getD, set}
 use Rattle.snapshot.specs.Lists.{over}
+use Rattle.snapshot.specs.declared.Value.{Value}
 use Rattle.snapshot.specs.Marks.{markFrom}
 use Rattle.unbounded.specs.declared.Register.{Register}
 use Rattle.unbounded.specs.declared.Process.{Process}
@@ -37,7 +38,7 @@ module _ (a : Access) (r : Register) (p : Process) where
   abbrev y : List Register
   y = secondAfter (a .n) (a .pos) r (p .second)
 
-  abbrev stored : (view : List ℕ) → Process
+  abbrev stored : (view : List Value) → Process
   stored v = withCollected x y (endAfter (a .n) (a .pos) (a .now) (p .«first_end»)) v (p .moved) p
 
   in-first : (z : Register) (e : ℕ) → a .pos < a .n → z ≡ laid (a .n) r (getD (p .first) (a .pos) noRegister) →
@@ -99,8 +100,8 @@ element-set-from-q-2 c = search needs
 keeps-requires : tie.Need-keeps-requires
 keeps-requires c κs = search needs
 
-over-words-requires : tie.Need-over-words-requires
-over-words-requires c κs = search needs
+over-values-requires : tie.Need-over-values-requires
+over-values-requires c κs = search needs
 
 mark-requires : tie.Need-mark-requires
 mark-requires c κs = search needs
@@ -117,7 +118,7 @@ at-stored c =
     (c .if1 .came)
 
 -- the view that p has after it, by whether the page of f is kept
-abbrev viewAfter : Access → Process → Find → Bool → List ℕ
+abbrev viewAfter : Access → Process → Find → Bool → List Value
 viewAfter a p f b = cond b (over (a .n) (f .words) (p .view)) (p .view)
 
 -- the record once what the task keeps is stored too
@@ -169,7 +170,7 @@ read-spec =
     mul-t28
     element-set-from-q-2
     keeps-requires
-    over-words-requires
+    over-values-requires
     mark-requires
     returns
     returns-2)

@@ -17,8 +17,8 @@ enum-told-3 c = search needs
 enum-known-k : tie.Need-enum-known-k
 enum-known-k c = search needs
 
-add-t10 : tie.Need-add-t10
-add-t10 c = search needs
+add-t11 : tie.Need-add-t11
+add-t11 c = search needs
 
 lay-requires : tie.Need-lay-requires
 lay-requires c κs = search needs
@@ -45,7 +45,7 @@ written-over-spec =
     enum-told-2
     enum-told-3
     enum-known-k
-    add-t10
+    add-t11
     lay-requires
     returns
     returns-2

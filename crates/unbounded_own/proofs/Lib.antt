@@ -1,0 +1,2 @@
+-- What only proofs need: the types that walks carry.
+pub mod Types
