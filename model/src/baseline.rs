@@ -8,7 +8,7 @@ mod register;
 use self::reader::LONGEST;
 use self::register::{Day, Desk};
 use crate::dayfile::Record;
-use crate::register::{Refusal, Turn, View, PLACES};
+use crate::register::{Refusal, Shown, Turn, View, PLACES};
 use crate::runner::Done;
 use std::error::Error;
 use std::fmt;
@@ -16,7 +16,7 @@ use std::io::{self, ErrorKind, Read, Write};
 
 const INPUT: usize = 1 << 16;
 const OUTPUT: usize = 1 << 16;
-/// No line is longer.
+/// No line is longer: with eight words and eight numbers of ten digits each a page's has 226 bytes.
 const LINE: usize = 256;
 
 /// A day with the table and the page list that are lent to its calls.
@@ -53,8 +53,8 @@ impl Register {
         }
     }
 
-    /// The words of the last page answered.
-    fn words(&self) -> &[u32] {
+    /// The rows of the last page answered.
+    fn shown(&self) -> &[Shown] {
         &self.page[..self.day.desks as usize]
     }
 
@@ -83,8 +83,12 @@ impl Register {
                 field(out, b" at ", at);
                 field(out, b" turns ", turns);
                 out.extend_from_slice(b" words");
-                for &word in self.words() {
-                    field(out, b" ", word);
+                for shown in self.shown() {
+                    field(out, b" ", shown.word);
+                }
+                out.extend_from_slice(b" last");
+                for shown in self.shown() {
+                    field(out, b" ", shown.last);
                 }
             }
             Done::Turned(Turn::Written { turns }) => {

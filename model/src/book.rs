@@ -16,10 +16,11 @@ pub struct Call {
     pub word: Option<u32>,
 }
 
+/// What was done. A page also has its rows' numbers of last writings, which a book does not show.
 #[derive(Clone, Debug, PartialEq, Eq)]
 pub enum Deed {
     Entry { word: u32 },
-    Page { from: u32, words: Vec<u32> },
+    Page { from: u32, words: Vec<u32>, last: Vec<u32> },
 }
 
 /// A piece of finished work: where it stands in the book, what it is, and the numbers of its call and
@@ -89,7 +90,10 @@ impl History {
             Turn::Written { .. } => {
                 (answered, Deed::Entry { word: call.word.expect("an entry has a word") })
             }
-            Turn::Page { from, at, .. } => (at, Deed::Page { from, words: register.page.clone() }),
+            Turn::Page { from, at, .. } => {
+                let (words, last) = (register.words().to_vec(), register.last().to_vec());
+                (at, Deed::Page { from, words, last })
+            }
         };
         self.pieces.push(Piece { number, desk, deed, called, answered });
     }

@@ -1,5 +1,5 @@
-//! What K1 of document 02 says of a day's book, checked on the book of one day: each check answers
-//! what is wrong.
+//! What K1 of document 02 says of a day's book, and K6 of the numbers on its pages, checked on the book
+//! of one day: each check answers what is wrong.
 
 use crate::automaton::{well_formed, Action, State};
 use crate::book::{Call, Deed, History, Piece};
@@ -9,6 +9,7 @@ pub fn check(history: &History, book: &[Piece]) -> Result<(), String> {
     each_once(history, book)?;
     in_order(book)?;
     shows_what_is_above(history.rows.len(), book)?;
+    dates_what_is_above(history.rows.len(), book)?;
     finished_comes_first(book)?;
     is_a_run(history, book)
 }
@@ -60,6 +61,20 @@ pub fn shows_what_is_above(n: usize, book: &[Piece]) -> Result<(), String> {
             Deed::Entry { word } => rows[place.desk as usize - 1] = *word,
             Deed::Page { words, .. } if *words == rows => {}
             Deed::Page { .. } => return Err(format!("{rows:?} stands above {place:?}")),
+        }
+    }
+    Ok(())
+}
+
+/// "each number that of its row's last writing at or before the page's instant": an entry stands at the
+/// number of its writing turn and a page at its instant, so that the last one above a page counts.
+pub fn dates_what_is_above(n: usize, book: &[Piece]) -> Result<(), String> {
+    let mut rows = vec![0; n];
+    for place in book {
+        match &place.deed {
+            Deed::Entry { .. } => rows[place.desk as usize - 1] = place.number,
+            Deed::Page { last, .. } if *last == rows => {}
+            Deed::Page { .. } => return Err(format!("{rows:?} were last written above {place:?}")),
         }
     }
     Ok(())

@@ -1,5 +1,6 @@
-//! The days that document 01 gives to check by hand, with what it states about them, and their books
-//! by document 02, worked out by hand. Day I has 65,535 events and is made by `days::last_day`.
+//! The days that document 01 gives to check by hand, with what it states about them, the numbers of
+//! last writings that K6 of document 02 adds, and their books by document 02, worked out by hand.
+//! Day I has 65,535 events and is made by `days::last_day`.
 
 use crate::text;
 
@@ -24,7 +25,7 @@ pub const CASES: [Case; 9] = [
             "4 written 1 turns 3",
             "5 asked 1",
             "6 read 1",
-            "7 page 1 from 0 at 6 turns 2 words 7",
+            "7 page 1 from 0 at 6 turns 2 words 7 last 4",
             "refused 4",
             "end 7",
         ],
@@ -33,19 +34,19 @@ pub const CASES: [Case; 9] = [
     Case {
         name: "B",
         day: include_str!("../../samples/b.txt"),
-        prints: &["11 read 1", "21 page 1 from 2 at 16 turns 8 words 0 7", "end 21"],
+        prints: &["11 read 1", "21 page 1 from 2 at 16 turns 8 words 0 7 last 0 9", "end 21"],
         book: "9 entry 2 7\n16 page 1 words 0 7\n19 entry 2 9\nend 3\n",
     },
     Case {
         name: "C",
         day: include_str!("../../samples/c.txt"),
-        prints: &["11 read 1", "15 page 1 from 0 at 13 turns 8 words 0 0", "end 15"],
+        prints: &["11 read 1", "15 page 1 from 0 at 13 turns 8 words 0 0 last 0 9", "end 15"],
         book: "9 entry 2 0\n13 page 1 words 0 0\nend 2\n",
     },
     Case {
         name: "D",
         day: include_str!("../../samples/d.txt"),
-        prints: &["29 page 3 from 0 at 26 turns 12 words 5 6 0", "end 29"],
+        prints: &["29 page 3 from 0 at 26 turns 12 words 5 6 0 last 10 18 0", "end 29"],
         book: "10 entry 1 5\n18 entry 2 6\n26 page 3 words 5 6 0\nend 3\n",
     },
     Case {
@@ -69,13 +70,13 @@ pub const CASES: [Case; 9] = [
     Case {
         name: "H",
         day: include_str!("../../samples/h.txt"),
-        prints: &["5 page 1 from 0 at 3 turns 4 words 0 0", "end 5"],
+        prints: &["5 page 1 from 0 at 3 turns 4 words 0 0 last 0 0", "end 5"],
         book: "3 page 1 words 0 0\nend 1\n",
     },
     Case {
         name: "J",
         day: include_str!("../../samples/j.txt"),
-        prints: &["refused 3", "refused 3", "3 page 1 from 0 at 2 turns 2 words 0", "end 3"],
+        prints: &["refused 3", "refused 3", "3 page 1 from 0 at 2 turns 2 words 0 last 0", "end 3"],
         book: "2 page 1 words 0\nend 1\n",
     },
 ];

@@ -1,7 +1,7 @@
 //! The register of document 01, "Rows, desks and the day" and "What one turn does", sentence by
-//! sentence, with the end of the day as K2 of document 02 has it. Each definition stands below the
-//! words that it is, in quotation marks. Desk j of the paper has place j - 1 in tables, collects and
-//! views.
+//! sentence, with the end of the day as K2 of document 02 has it, and the numbers of last writings as
+//! K6 has them. Each definition stands below the words that it is, in quotation marks. Desk j of the
+//! paper has place j - 1 in tables, collects and views.
 
 /// "A collect has eight rows and a view eight words".
 pub const PLACES: usize = 8;
@@ -29,7 +29,7 @@ pub enum Refusal {
     /// the new task, exceeds 65,535"
     DayFull = 5,
     /// "the desk table has not exactly n records, or, on a turn, the page list has fewer than n
-    /// words"
+    /// words", where it "now ask[s] for 2n places"
     LentSize = 6,
     /// "day file cut short"
     CutShort = 7,
@@ -42,7 +42,7 @@ pub enum Refusal {
     /// "a day that cannot have arisen"
     CannotHaveArisen = 11,
     /// "when the answer table has fewer places than turns, or the page table fewer than n words for
-    /// each turn"
+    /// each turn", where it "now ask[s] for 2n places"
     TableShort = 13,
     /// "when that desk count has no page"
     NoPage = 14,
@@ -50,14 +50,24 @@ pub enum Refusal {
     TooManyAnswers = 15,
 }
 
-/// "*view* (n words)", and "a view eight words; those past n are touched only by an opening".
-pub type View = [u32; PLACES];
+/// What a page shows of one row: its word, and "the event number of its last writing, 0 if none".
+#[derive(Clone, Copy, Debug, Default, PartialEq, Eq)]
+pub struct Shown {
+    pub word: u32,
+    pub last: u32,
+}
+
+/// "*view* (n words)", and "a view keeps n of these" numbers; "a view eight words; those past n are
+/// touched only by an opening".
+pub type View = [Shown; PLACES];
 
 /// "A row belongs to one desk: word (32 bits, every value allowed, meaning left to the home), seq
 /// (how often the row has been written), view (n words) and at (the instant that the view stood)."
+/// "Every row keeps the event number of its last writing, 0 if none".
 #[derive(Clone, Copy, Debug, Default, PartialEq, Eq)]
 pub struct Row {
     pub word: u32,
+    pub last: u32,
     pub seq: u32,
     pub view: View,
     pub at: u32,
@@ -145,7 +155,7 @@ pub enum Turn {
 struct Page {
     from: u32,
     at: u32,
-    words: Vec<u32>,
+    rows: Vec<Shown>,
 }
 
 impl Day {
@@ -213,7 +223,8 @@ impl Day {
         page: &mut [u32],
     ) -> Result<Turn, Refusal> {
         let n = self.desks as usize;
-        let size_wrong = table.len() != n || page.len() < n;
+        // "6, 13 and case H now ask for 2n places where they asked for n"
+        let size_wrong = table.len() != n || page.len() < 2 * n;
         self.refuse_any(table, size_wrong, desk)?;
         let rows: Vec<Row> = table.iter().map(|record| record.row).collect();
         let record = &mut table[desk as usize - 1];
@@ -260,6 +271,11 @@ impl Day {
             if record.row.seq > self.event || record.row.at > self.event {
                 return true;
             }
+            // "11 also when a row's own such number, those in its view aside, is above the event
+            // number."
+            if record.row.last > self.event {
+                return true;
+            }
             let most = most_reads(self.desks);
             let too_many = match record.task {
                 Task::Idle => false,
@@ -283,12 +299,13 @@ impl Desk {
             Task::Idle => unreachable!("a turn for an idle desk is refused"),
             Task::Page { turns } => self.page_turn(turns, rows, event, page),
             Task::Entry { turns, word } => self.entry_turn(turns, word, rows, event),
-            Task::Ready { turns, word, at } => self.write(turns, word, at, rows.len()),
+            Task::Ready { turns, word, at } => self.write(turns, word, at, event, rows.len()),
         }
     }
 
     /// "A page's words are put in a lent list of words: its first n are written by a page answer;
-    /// later words, and all words on any other turn, remain."
+    /// later words, and all words on any other turn, remain." "The page list takes them after the
+    /// words", so that its first 2n are written.
     fn page_turn(&mut self, turns: u32, rows: &[Row], event: u32, page: &mut [u32]) -> Turn {
         match self.read(turns, rows, event) {
             None => {
@@ -296,10 +313,12 @@ impl Desk {
                 Turn::Read
             }
             Some(decided) => {
-                for j in 0..rows.len() {
-                    page[j] = decided.words[j];
+                let n = rows.len();
+                for j in 0..n {
+                    page[j] = decided.rows[j].word;
+                    page[n + j] = decided.rows[j].last;
                 }
-                self.clear(rows.len());
+                self.clear(n);
                 self.task = Task::Idle;
                 Turn::Page { from: decided.from, at: decided.at, turns: turns + 1 }
             }
@@ -312,7 +331,7 @@ impl Desk {
             None => self.task = Task::Entry { turns: turns + 1, word },
             Some(decided) => {
                 for j in 0..rows.len() {
-                    self.kept[j] = decided.words[j];
+                    self.kept[j] = decided.rows[j];
                 }
                 self.task = Task::Ready { turns: turns + 1, word, at: decided.at };
             }
@@ -351,20 +370,21 @@ impl Desk {
     /// Rules 2, 3 and 4, and lines 4 to 10 of Figure 3.
     fn decide(&mut self, n: usize) -> Option<Page> {
         // "if every row has the same seq in both collects, the page is the words of the second
-        // collect. Its at is the number of the turn that ended the first collect."
+        // collect. Its at is the number of the turn that ended the first collect." The numbers are
+        // those rows' own.
         if (0..n).all(|j| !self.differs(j)) {
-            let words = (0..n).map(|j| self.second[j].word).collect();
-            return Some(Page { from: 0, at: self.first_ended, words });
+            let rows = (0..n).map(|j| self.second[j].shown()).collect();
+            return Some(Page { from: 0, at: self.first_ended, rows });
         }
         // "Otherwise desks are looked at from 1 to n."
         for j in 0..n {
             // "A desk whose seq differs and that is marked from an earlier double collect lends: the
             // page is the view, and the at, of its row in the second collect." "The first lender ends
-            // the search."
+            // the search." The numbers are the view's too.
             if self.differs(j) && self.marks[j] {
                 let lent = self.second[j];
-                let words = lent.view[..n].to_vec();
-                return Some(Page { from: j as u32 + 1, at: lent.at, words });
+                let rows = lent.view[..n].to_vec();
+                return Some(Page { from: j as u32 + 1, at: lent.at, rows });
             }
             // "A differing desk that isn't marked becomes marked."
             if self.differs(j) {
@@ -376,8 +396,10 @@ impl Desk {
     }
 
     /// "Its next turn writes its row at once: word, seq plus 1, that page as view, that page's at."
-    fn write(&mut self, turns: u32, word: u32, at: u32, n: usize) -> Turn {
+    /// The row "keeps the event number of its last writing", which is this turn's own.
+    fn write(&mut self, turns: u32, word: u32, at: u32, event: u32, n: usize) -> Turn {
         self.row.word = word;
+        self.row.last = event;
         self.row.seq += 1;
         for j in 0..n {
             self.row.view[j] = self.kept[j];
@@ -395,19 +417,26 @@ impl Desk {
         for j in 0..n {
             self.first[j] = replaced(self.first[j], Row::default(), n);
             self.second[j] = replaced(self.second[j], Row::default(), n);
-            self.kept[j] = 0;
+            self.kept[j] = Shown::default();
         }
         self.first_ended = 0;
         self.marks = [false; PLACES];
     }
 }
 
-/// What a place of a collect holds after a row was put in it: the row, and of the view's words "those
-/// past n are touched only by an opening".
+impl Row {
+    /// What a page shows of it that was read clean.
+    fn shown(&self) -> Shown {
+        Shown { word: self.word, last: self.last }
+    }
+}
+
+/// What a place of a collect holds after a row was put in it: the row, and of the view's words and
+/// numbers "those past n are touched only by an opening".
 fn replaced(place: Row, row: Row, n: usize) -> Row {
     let mut view = place.view;
     for j in 0..n {
         view[j] = row.view[j];
     }
-    Row { word: row.word, seq: row.seq, view, at: row.at }
+    Row { word: row.word, last: row.last, seq: row.seq, view, at: row.at }
 }

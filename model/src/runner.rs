@@ -5,7 +5,7 @@ use crate::dayfile::{self, Record};
 use crate::register::{Day, Desk, Refusal, Turn};
 
 /// A day, with "the table of desk records, one record for each desk", and the page list of the last
-/// turn.
+/// turn, which has 2n places.
 #[derive(Default)]
 pub struct Register {
     pub day: Day,
@@ -24,7 +24,7 @@ pub enum Done {
 impl Register {
     /// Does what a record asks. "The table of desk records, one record for each desk, is lent to every
     /// call." A blank day has no desks, so its opening is lent a new table, of "the asked number of
-    /// records". A turn is lent a page list of n words. So no record of a day file is refused with 6.
+    /// records". A turn is lent a page list of 2n places. So no record of a day file is refused with 6.
     pub fn apply(&mut self, record: Record) -> Result<Done, Refusal> {
         match record {
             Record::Open { desks } => {
@@ -43,12 +43,22 @@ impl Register {
                 Ok(Done::Called)
             }
             Record::Turn { desk } => {
-                let mut page = vec![0; self.day.desks as usize];
+                let mut page = vec![0; 2 * self.day.desks as usize];
                 let turn = self.day.turn(&mut self.table, desk.into(), &mut page)?;
                 self.page = page;
                 Ok(Done::Turned(turn))
             }
         }
+    }
+
+    /// The words of the last page: the first n places of its list.
+    pub fn words(&self) -> &[u32] {
+        &self.page[..self.day.desks as usize]
+    }
+
+    /// Its rows' numbers: "The page list takes them after the words".
+    pub fn last(&self) -> &[u32] {
+        &self.page[self.day.desks as usize..]
     }
 
     /// The line of an accepted record. "An opening prints `open` and the desk count. For every other
@@ -65,18 +75,24 @@ impl Register {
     }
 
     /// "`written` or `page` for a turn that answers, `read` for any other turn"; "after `turns` the
-    /// count of turns, after `from` the lender, after `at` the instant, after `words` the n words".
+    /// count of turns, after `from` the lender, after `at` the instant, after `words` the n words". "In
+    /// the runner's page line `last` and the n numbers follow the words".
     fn turn_line(&self, desk: u16, done: Done) -> String {
         match done {
             Done::Turned(Turn::Page { from, at, turns }) => {
-                let words: Vec<String> = self.page.iter().map(u32::to_string).collect();
-                let words = words.join(" ");
-                format!("page {desk} from {from} at {at} turns {turns} words {words}")
+                let (words, last) = (numbers(self.words()), numbers(self.last()));
+                format!("page {desk} from {from} at {at} turns {turns} words {words} last {last}")
             }
             Done::Turned(Turn::Written { turns }) => format!("written {desk} turns {turns}"),
             _ => format!("read {desk}"),
         }
     }
+}
+
+/// "Single spaces" between them.
+fn numbers(list: &[u32]) -> String {
+    let list: Vec<String> = list.iter().map(u32::to_string).collect();
+    list.join(" ")
 }
 
 /// What a day file prints: "one line a record, then `end` and the event number".

@@ -1,4 +1,4 @@
-//! A run of turns at once: K4 of document 02, sentence by sentence.
+//! A run of turns at once: K4 of document 02, sentence by sentence, with the pages of K6.
 
 use crate::register::{Day, Desk, Refusal, Turn};
 
@@ -8,7 +8,7 @@ pub type Answer = Result<Turn, Refusal>;
 impl Day {
     /// "The chapel laptop sends a list of desk numbers, and each is one turn. Answers go in a lent
     /// table in order, pages in a second table at n words a turn; every other place of both remains."
-    /// A place of the answer table is none where nothing was ever put.
+    /// "a run's pages lie 2n apart". A place of the answer table is none where nothing was ever put.
     pub fn run(
         &mut self,
         table: &mut [Desk],
@@ -21,7 +21,7 @@ impl Day {
         for (i, &desk) in desks.iter().enumerate() {
             // "Everything equals giving the turns one by one; a refused turn is answered with its
             // number and the next follows."
-            let page = &mut pages[i * n..(i + 1) * n];
+            let page = &mut pages[i * 2 * n..(i + 1) * 2 * n];
             answers[i] = Some(self.turn(table, desk, page));
         }
         Ok(())
@@ -42,8 +42,9 @@ impl Day {
         if records != self.desks as usize {
             return Err(Refusal::LentSize);
         }
-        // "13 [...] right after 6 and instead of its page part": no turn's page list is too short.
-        if places < turns || (words as u128) < turns as u128 * u128::from(self.desks) {
+        // "13 [...] right after 6 and instead of its page part": no turn's page list is too short. It
+        // "now ask[s] for 2n places".
+        if places < turns || (words as u128) < turns as u128 * 2 * u128::from(self.desks) {
             return Err(Refusal::TableShort);
         }
         Ok(())

@@ -181,6 +181,41 @@ fn a_wrong_word_is_refused() {
     assert!(shows(&d, &changed(&d, wrong)).is_err());
 }
 
+/// "each number that of its row's last writing": neither another's nor none.
+#[test]
+fn a_wrong_number_of_a_writing_is_refused() {
+    for (name, row) in [("A", 0), ("B", 1), ("C", 1), ("D", 0), ("D", 1)] {
+        let history = case(name);
+        let numbers = |book: &[Piece]| claims::dates_what_is_above(history.rows.len(), book);
+        assert_eq!(numbers(&history.book()), Ok(()));
+        let wrong: [fn(u32) -> u32; 4] = [|_| 0, |last| last - 1, |last| last + 1, |_| u32::MAX];
+        for wrong in wrong {
+            let mut book = history.book();
+            for place in &mut book {
+                if let Deed::Page { last, .. } = &mut place.deed {
+                    last[row] = wrong(last[row]);
+                }
+            }
+            assert!(numbers(&book).is_err(), "{name}");
+            // The words alone make the book.
+            assert_eq!(shows(&history, &book), Ok(()));
+            assert_eq!(book::text(&book), book::text(&history.book()));
+        }
+    }
+}
+
+#[test]
+fn the_number_of_a_row_that_was_never_written_is_0() {
+    let d = case("D");
+    let mut book = d.book();
+    let Some(Piece { deed: Deed::Page { last, .. }, .. }) = book.last_mut() else {
+        panic!("day D's page stands last");
+    };
+    assert_eq!(*last, [10, 18, 0]);
+    last[2] = 1;
+    assert!(claims::dates_what_is_above(3, &book).is_err());
+}
+
 #[test]
 fn the_run_ends_as_the_day_does() {
     let mut left = history("open 2\nentry 2 7\nturn 2 x5\npage 1\nturn 1\nentry 2 8");

@@ -75,22 +75,25 @@ fn g_desks_that_are_not_there() {
     for n in 1..=8 {
         let (mut day, mut table) = opened(n);
         for desk in [0, n + 1, u32::MAX] {
-            assert_eq!(day.turn(&mut table, desk, &mut [0; 8]), Err(Refusal::NoSuchDesk));
+            assert_eq!(day.turn(&mut table, desk, &mut [0; 16]), Err(Refusal::NoSuchDesk));
         }
     }
 }
 
+/// "case H now ask[s] for 2n places where [it] asked for n"
 #[test]
 fn h_page_lists() {
     states("H");
     for n in 1..=8 {
         let (mut day, mut table) = opened(n);
         day.page(&mut table, 1).unwrap();
-        let mut page = vec![5; n as usize];
-        let short = &mut page[1..];
-        assert_eq!(day.turn(&mut table, 1, short), Err(Refusal::LentSize));
+        let mut page = vec![5; 2 * n as usize];
+        for short in 0..page.len() {
+            let turn = day.turn(&mut table, 1, &mut page[..short]);
+            assert_eq!(turn, Err(Refusal::LentSize));
+        }
         assert_eq!(day.turn(&mut table, 1, &mut page), Ok(Turn::Read));
-        assert_eq!(page, vec![5; n as usize]);
+        assert_eq!(page, vec![5; 2 * n as usize]);
     }
 }
 
@@ -118,7 +121,7 @@ fn i_pages_of_one_desk() {
     }
     let printed = printed(&file);
     let lines: Vec<&str> = printed.lines().collect();
-    let last = "65535 page 1 from 0 at 65534 turns 2 words 0";
+    let last = "65535 page 1 from 0 at 65534 turns 2 words 0 last 0";
     assert_eq!(lines[lines.len() - 4..], [last, "refused 5", "refused 4", "end 65535"]);
     assert_eq!(lines.iter().filter(|line| line.contains("page")).count(), 21_845);
 }

@@ -119,7 +119,7 @@ fn ask(day: Day, table: &[Desk], desk: u32) -> [Option<Refusal>; 3] {
     [
         page.page(&mut table.to_vec(), desk).err(),
         entry.entry(&mut table.to_vec(), desk, 7).err(),
-        turn.turn(&mut table.to_vec(), desk, &mut [0; 8]).err(),
+        turn.turn(&mut table.to_vec(), desk, &mut [0; 16]).err(),
     ]
 }
 
@@ -184,7 +184,7 @@ fn end_all(mut day: Day, mut table: Vec<Desk>, random: &mut Random) {
         let mut left = table[desk as usize - 1].task.owed(n);
         while table[desk as usize - 1].task != Task::Idle {
             assert!(left > 0, "desk {desk} still waits");
-            assert!(day.turn(&mut table, desk, &mut [0; 8]).is_ok());
+            assert!(day.turn(&mut table, desk, &mut [0; 16]).is_ok());
             left -= 1;
         }
     }
@@ -206,7 +206,7 @@ fn everybody_who_waits_can_be_ended() {
             let outcome = match random.below(calls + 4) {
                 0 => day.page(&mut table, desk),
                 1 => day.entry(&mut table, desk, random.draw() as u32),
-                _ => day.turn(&mut table, desk, &mut [0; 8]).map(|_| ()),
+                _ => day.turn(&mut table, desk, &mut [0; 16]).map(|_| ()),
             };
             assert!(outcome != Err(Refusal::CannotHaveArisen));
             assert!(!busy || outcome != Err(Refusal::DayFull));

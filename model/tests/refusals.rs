@@ -1,16 +1,21 @@
 //! Refusals in their order, and what they and the turns leave alone. Here the day and its records
 //! may also be such as no opening leads to.
 
-use model::register::{Day, Desk, Refusal, Row, Task, Turn, View, LAST_EVENT};
+use model::register::{Day, Desk, Refusal, Row, Shown, Task, Turn, View, LAST_EVENT};
+
+/// A view of one word and one number in every place.
+fn view(word: u32, last: u32) -> View {
+    [Shown { word, last }; 8]
+}
 
 /// A record of rubbish that is not refused: every number is 1, all marks are set.
 fn rubbish() -> Desk {
-    let row = Row { word: 1, seq: 1, at: 1, view: [1; 8] };
+    let row = Row { word: 1, last: 1, seq: 1, at: 1, view: view(1, 1) };
     Desk {
         row,
         task: Task::Idle,
         marks: [true; 8],
-        kept: [1; 8],
+        kept: view(1, 1),
         first: [row; 8],
         second: [row; 8],
         first_ended: 1,
@@ -74,23 +79,27 @@ fn order_of_calls_and_turns() {
     let full = Day { desks: 2, event: LAST_EVENT };
     let over = Day { desks: 2, event: LAST_EVENT + 1 };
     refuse_all(Day { desks: 0, event: 70_000 }, &table(3), 3, 0, Refusal::OpenOrNot);
-    refuse_all(over, &table(3), 3, 2, Refusal::LentSize);
-    refuse_all(over, &table(1), 3, 2, Refusal::LentSize);
-    refuse_all(over, &table(2), 3, 2, Refusal::CannotHaveArisen);
-    refuse(over, &table(2), 3, 1, Refusal::CannotHaveArisen, Refusal::LentSize);
-    refuse_all(Day { desks: 9, event: 5 }, &table(9), 10, 9, Refusal::CannotHaveArisen);
-    refuse_all(full, &table(2), 3, 2, Refusal::NoSuchDesk);
-    refuse_all(full, &table(2), 0, 2, Refusal::NoSuchDesk);
-    refuse(full, &table(2), 1, 2, Refusal::DayFull, Refusal::DeskIdle);
+    refuse_all(over, &table(3), 3, 4, Refusal::LentSize);
+    refuse_all(over, &table(1), 3, 4, Refusal::LentSize);
+    refuse_all(over, &table(2), 3, 4, Refusal::CannotHaveArisen);
+    for short in [0, 1, 2, 3] {
+        refuse(over, &table(2), 3, short, Refusal::CannotHaveArisen, Refusal::LentSize);
+    }
+    let nine = Day { desks: 9, event: 5 };
+    refuse_all(nine, &table(9), 10, 18, Refusal::CannotHaveArisen);
+    refuse(nine, &table(9), 10, 17, Refusal::CannotHaveArisen, Refusal::LentSize);
+    refuse_all(full, &table(2), 3, 4, Refusal::NoSuchDesk);
+    refuse_all(full, &table(2), 0, 4, Refusal::NoSuchDesk);
+    refuse(full, &table(2), 1, 4, Refusal::DayFull, Refusal::DeskIdle);
     // Desk 1 owes the last 8 events: no call is taken, whoever calls.
     let mut busy = table(2);
     busy[0].task = Task::Page { turns: 0 };
     let closed = Day { desks: 2, event: LAST_EVENT - 8 };
-    refuse(closed, &busy, 2, 2, Refusal::DayFull, Refusal::DeskIdle);
+    refuse(closed, &busy, 2, 4, Refusal::DayFull, Refusal::DeskIdle);
     refuse_calls(closed, &busy, 1, Refusal::DeskBusy);
-    refuse_all(closed, &busy, 3, 2, Refusal::NoSuchDesk);
-    refuse_all(full, &busy, 3, 2, Refusal::CannotHaveArisen);
-    refuse(full, &busy, 3, 1, Refusal::CannotHaveArisen, Refusal::LentSize);
+    refuse_all(closed, &busy, 3, 4, Refusal::NoSuchDesk);
+    refuse_all(full, &busy, 3, 4, Refusal::CannotHaveArisen);
+    refuse(full, &busy, 3, 3, Refusal::CannotHaveArisen, Refusal::LentSize);
 }
 
 #[test]
@@ -98,7 +107,8 @@ fn days_that_cannot_have_arisen() {
     for n in 1..=8u32 {
         let day = Day { desks: n, event: 100 };
         let most = 2 * n * n;
-        let changes: [fn(&mut Desk, u32); 5] = [
+        let changes: [fn(&mut Desk, u32); 6] = [
+            |desk, _| desk.row.last = 101,
             |desk, _| desk.row.seq = 101,
             |desk, _| desk.row.at = 101,
             |desk, most| desk.task = Task::Page { turns: most },
@@ -108,7 +118,7 @@ fn days_that_cannot_have_arisen() {
         for change in changes {
             let mut damaged = table(n as usize);
             change(&mut damaged[n as usize - 1], most);
-            refuse_all(day, &damaged, 1, 8, Refusal::CannotHaveArisen);
+            refuse_all(day, &damaged, 1, 16, Refusal::CannotHaveArisen);
         }
     }
 }
@@ -124,18 +134,40 @@ fn the_last_numbers_that_can_arise() {
         ] {
             let mut lent = table(n as usize);
             lent[0].task = task;
+            lent[0].row.last = 100;
             lent[0].row.seq = 100;
             lent[0].row.at = 100;
             let mut day = Day { desks: n, event: 100 };
-            assert!(day.turn(&mut lent, 1, &mut [0; 8]).is_ok());
+            assert!(day.turn(&mut lent, 1, &mut [0; 16]).is_ok());
         }
     }
 }
 
-/// A view or a page of which only the first n words were set.
-fn painted(n: usize, word: u32, rest: View) -> View {
+/// "a row's own such number, those in its view aside"
+#[test]
+fn numbers_above_the_event_number_that_are_no_rows_own() {
+    for n in 1..=8u32 {
+        let changes: [fn(&mut Desk); 5] = [
+            |desk| desk.row.view = view(1, 101),
+            |desk| desk.kept = view(1, u32::MAX),
+            |desk| desk.first = [Row { last: 101, ..desk.row }; 8],
+            |desk| desk.second = [Row { last: u32::MAX, ..desk.row }; 8],
+            |desk| desk.second = [Row { view: view(1, 101), ..desk.row }; 8],
+        ];
+        for change in changes {
+            let mut lent = table(n as usize);
+            lent.iter_mut().for_each(change);
+            let mut day = Day { desks: n, event: 100 };
+            assert_eq!(day.page(&mut lent, 1), Ok(()));
+            assert_eq!(day.turn(&mut lent, 1, &mut [0; 16]), Ok(Turn::Read));
+        }
+    }
+}
+
+/// A view of which only the first n places were set.
+fn painted(n: usize, set: View, rest: View) -> View {
     let mut view = rest;
-    view[..n].fill(word);
+    view[..n].copy_from_slice(&set[..n]);
     view
 }
 
@@ -146,11 +178,12 @@ fn a_call_clears_the_first_n_of_everything() {
         let mut lent = table(n);
         day.page(&mut lent, 1).unwrap();
         let before = rubbish();
-        let cleared = Row { word: 0, seq: 0, at: 0, view: painted(n, 0, [1; 8]) };
+        let blank = painted(n, view(0, 0), view(1, 1));
+        let cleared = Row { word: 0, last: 0, seq: 0, at: 0, view: blank };
         let mut wanted = Desk {
             task: Task::Page { turns: 0 },
             marks: [false; 8],
-            kept: painted(n, 0, [1; 8]),
+            kept: blank,
             first_ended: 0,
             ..before
         };
@@ -165,13 +198,14 @@ fn a_call_clears_the_first_n_of_everything() {
 fn a_read_replaces_the_first_n_of_its_place() {
     let mut day = Day { desks: 3, event: 9 };
     let mut lent = table(3);
-    lent[2].row = Row { word: 5, seq: 6, at: 7, view: [8; 8] };
+    lent[2].row = Row { word: 5, last: 4, seq: 6, at: 7, view: view(8, 3) };
     for (turns, second) in [(2, false), (5, true)] {
         lent[0] = rubbish();
         lent[0].marks = [false; 8];
         lent[0].task = Task::Page { turns };
         let mut wanted = lent[0];
-        let seen = Row { word: 5, seq: 6, at: 7, view: painted(3, 8, [1; 8]) };
+        let read = painted(3, view(8, 3), view(1, 1));
+        let seen = Row { word: 5, last: 4, seq: 6, at: 7, view: read };
         wanted.task = Task::Page { turns: turns + 1 };
         if second {
             wanted.second[2] = seen;
@@ -180,33 +214,35 @@ fn a_read_replaces_the_first_n_of_its_place() {
             wanted.first[2] = seen;
             wanted.first_ended = day.event + 1;
         }
-        assert_eq!(day.turn(&mut lent, 1, &mut [0; 3]), Ok(Turn::Read));
+        assert_eq!(day.turn(&mut lent, 1, &mut [0; 6]), Ok(Turn::Read));
         assert_eq!(lent[0], wanted);
     }
 }
 
 #[test]
-fn a_write_leaves_the_words_past_n() {
+fn a_write_leaves_what_is_past_n() {
     let mut day = Day { desks: 2, event: 9 };
     let mut lent = table(2);
-    lent[1].kept = [4; 8];
+    lent[1].kept = view(4, 3);
     lent[1].task = Task::Ready { turns: 3, word: 5, at: 6 };
-    assert_eq!(day.turn(&mut lent, 2, &mut [0; 2]), Ok(Turn::Written { turns: 4 }));
-    let row = Row { word: 5, seq: 2, at: 6, view: painted(2, 4, [1; 8]) };
-    assert_eq!(lent[1].row, row);
-    assert_eq!(lent[1].kept, painted(2, 0, [4; 8]));
+    assert_eq!(day.turn(&mut lent, 2, &mut [0; 4]), Ok(Turn::Written { turns: 4 }));
+    let written = painted(2, view(4, 3), view(1, 1));
+    assert_eq!(lent[1].row, Row { word: 5, last: 10, seq: 2, at: 6, view: written });
+    assert_eq!(lent[1].kept, painted(2, view(0, 0), view(4, 3)));
     assert_eq!(lent[1].task, Task::Idle);
 }
 
 #[test]
-fn a_page_leaves_the_words_past_n() {
+fn a_page_leaves_what_is_past_2n() {
     let mut day = Day { desks: 2, event: 9 };
     let mut lent = table(2);
     lent[0].task = Task::Page { turns: 3 };
-    let mut page = [9; 5];
+    lent[0].second[0].last = 5;
+    lent[1].row.last = 6;
+    let mut page = [9; 7];
     let answer = Turn::Page { from: 0, at: 1, turns: 4 };
     assert_eq!(day.turn(&mut lent, 1, &mut page), Ok(answer));
-    assert_eq!(page, [1, 1, 9, 9, 9]);
+    assert_eq!(page, [1, 1, 5, 6, 9, 9, 9]);
 }
 
 #[test]
@@ -220,9 +256,9 @@ fn an_entry_that_borrows_marks_the_desks_before_its_lender() {
     lent[1].marks = [false; 8];
     lent[1].marks[1] = true;
     lent[1].second[0].seq = 3;
-    lent[1].second[1] = Row { word: 0, seq: 3, at: 4, view: [6; 8] };
-    assert_eq!(day.turn(&mut lent, 2, &mut [0; 3]), Ok(Turn::Read));
+    lent[1].second[1] = Row { word: 0, last: 8, seq: 3, at: 4, view: view(6, 2) };
+    assert_eq!(day.turn(&mut lent, 2, &mut [0; 6]), Ok(Turn::Read));
     assert_eq!(lent[1].task, Task::Ready { turns: 6, word: 7, at: 4 });
-    assert_eq!(lent[1].kept, painted(3, 6, [1; 8]));
+    assert_eq!(lent[1].kept, painted(3, view(6, 2), view(1, 1)));
     assert_eq!(lent[1].marks[..4], [true, true, false, false]);
 }

@@ -34,10 +34,10 @@ impl Lent {
         self.day.run(&mut self.table, desks, &mut self.answers, &mut self.pages)
     }
 
-    /// The same turns one by one, each with the next n words as its page list.
+    /// The same turns one by one, each with the next 2n words as its page list.
     fn one_by_one(&mut self, desks: &[u32]) {
         let n = self.day.desks as usize;
-        let mut pages = self.pages.chunks_exact_mut(n);
+        let mut pages = self.pages.chunks_exact_mut(2 * n);
         for (desk, answer) in desks.iter().zip(&mut self.answers) {
             let page = pages.next().unwrap();
             *answer = Some(self.day.turn(&mut self.table, *desk, page));
@@ -58,7 +58,7 @@ fn a_page_and_an_entry_with_refused_turns_between() {
     day.open(&mut table, 2).unwrap();
     day.page(&mut table, 1).unwrap();
     day.entry(&mut table, 2, 7).unwrap();
-    let mut lent = Lent::new(day, table, 13, 26);
+    let mut lent = Lent::new(day, table, 13, 52);
     assert_eq!(lent.run(&[1, 2, 3, 1, 2, 1, 2, 1, 1, 2, 2, 0]), Ok(()));
     let read = Ok(Turn::Read);
     let answers = [
@@ -78,11 +78,12 @@ fn a_page_and_an_entry_with_refused_turns_between() {
     assert_eq!(lent.answers[..12], answers.map(Some));
     assert_eq!(lent.answers[12..], [ANSWER]);
     // The page is the eighth turn's.
-    let mut pages = [WORD; 26];
-    pages[14..16].fill(0);
+    let mut pages = [WORD; 52];
+    pages[28..32].fill(0);
     assert_eq!(lent.pages, pages);
     assert_eq!(lent.day, Day { desks: 2, event: 11 });
-    assert_eq!((lent.table[1].row.word, lent.table[1].row.seq), (7, 1));
+    let row = lent.table[1].row;
+    assert_eq!((row.word, row.last, row.seq), (7, 11, 1));
 }
 
 /// The desk of a turn.
@@ -101,7 +102,7 @@ fn day_by_runs(file: &[u8]) -> usize {
     let mut turns = 0;
     for chunk in records.chunk_by(|one, next| turn(one).is_some() && turn(next).is_some()) {
         let desks: Vec<u32> = chunk.iter().filter_map(turn).collect();
-        let (day, words) = (register.day, desks.len() * register.day.desks as usize);
+        let (day, words) = (register.day, desks.len() * 2 * register.day.desks as usize);
         let mut lent = Lent::new(day, register.table.clone(), desks.len(), words);
         if desks.is_empty() {
             let _ = register.apply(chunk[0]);
@@ -134,9 +135,9 @@ fn tables_of_every_size() {
             let desks = vec![1; turns];
             let answer = if n > 8 { Refusal::CannotHaveArisen } else { Refusal::DeskIdle };
             for places in 0..=turns + 2 {
-                for words in 0..=turns * n + 2 {
+                for words in 0..=turns * 2 * n + 2 {
                     let lent = Lent::idle(n, places, words);
-                    if places < turns || words < turns * n {
+                    if places < turns || words < turns * 2 * n {
                         lent.refuse(&desks, Refusal::TableShort);
                         continue;
                     }
@@ -159,12 +160,12 @@ fn a_run_is_10_then_6_then_13() {
         closed(Lent::idle(records, 0, 0)).refuse(&[1], Refusal::OpenOrNot);
         closed(Lent::idle(records, 0, 0)).refuse(&[], Refusal::OpenOrNot);
         cannot_arise(Lent::idle(records, 0, 0)).refuse(&[1], Refusal::LentSize);
-        cannot_arise(Lent::idle(records, 4, 8)).refuse(&[1], Refusal::LentSize);
+        cannot_arise(Lent::idle(records, 4, 16)).refuse(&[1], Refusal::LentSize);
         cannot_arise(Lent::idle(records, 0, 0)).refuse(&[], Refusal::LentSize);
     }
-    cannot_arise(Lent::idle(2, 1, 4)).refuse(&[1, 3], Refusal::TableShort);
-    cannot_arise(Lent::idle(2, 2, 3)).refuse(&[1, 3], Refusal::TableShort);
-    let mut long_enough = cannot_arise(Lent::idle(2, 2, 4));
+    cannot_arise(Lent::idle(2, 1, 8)).refuse(&[1, 3], Refusal::TableShort);
+    cannot_arise(Lent::idle(2, 2, 7)).refuse(&[1, 3], Refusal::TableShort);
+    let mut long_enough = cannot_arise(Lent::idle(2, 2, 8));
     assert_eq!(long_enough.run(&[1, 3]), Ok(()));
     assert_eq!(long_enough.answers, [Some(Err(Refusal::CannotHaveArisen)); 2]);
 }
@@ -172,7 +173,7 @@ fn a_run_is_10_then_6_then_13() {
 /// A row whose at is above the event number: only the turns after it are refused with 11.
 #[test]
 fn a_day_that_cannot_have_arisen_any_more() {
-    let mut lent = Lent::idle(2, 4, 8);
+    let mut lent = Lent::idle(2, 4, 16);
     lent.table[0].task = Task::Ready { turns: 4, word: 7, at: 8 };
     lent.table[1].task = Task::Page { turns: 0 };
     assert_eq!(lent.run(&[2, 1, 2, 3]), Ok(()));
@@ -180,5 +181,5 @@ fn a_day_that_cannot_have_arisen_any_more() {
     let answers = [Ok(Turn::Read), Ok(Turn::Written { turns: 5 }), refused, refused];
     assert_eq!(lent.answers, answers.map(Some));
     assert_eq!((lent.day.event, lent.table[1].task), (7, Task::Page { turns: 1 }));
-    assert_eq!(lent.pages, [WORD; 8]);
+    assert_eq!(lent.pages, [WORD; 16]);
 }

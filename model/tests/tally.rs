@@ -1,9 +1,10 @@
 //! Demand 3 of random days and of ends of days, by document 01's tally: it is fed records, answers and
-//! refusals, and sees neither the day nor its records.
+//! refusals, and sees neither the day nor its records. By K6 of document 02 "the accuracy rule now
+//! speaks of words and these numbers together".
 
 use model::dayfile::Record;
 use model::days::{closing_day, last_day, random_day};
-use model::register::{most_reads, Refusal, Turn};
+use model::register::{most_reads, Refusal, Shown, Turn};
 use model::runner::{run_watched, Done};
 
 /// "the call opens, with its word if it is an entry, its number e and no turns"
@@ -20,8 +21,8 @@ struct Tally {
     n: usize,
     calls: [Option<Call>; 8],
     /// "The words after event e, zeros for 0, are those of instant e." The last ones are the tally's
-    /// words, and their place is e.
-    instants: Vec<[u32; 8]>,
+    /// words, and their place is e. With each stands the number of its row's last writing until then.
+    instants: Vec<[Shown; 8]>,
 }
 
 impl Tally {
@@ -32,7 +33,7 @@ impl Tally {
         match (record.unwrap(), done) {
             (Record::Open { desks }, Done::Opened) => {
                 *self = Tally { n: desks.into(), ..Tally::default() };
-                self.instants.push([0; 8]);
+                self.instants.push([Shown::default(); 8]);
             }
             (Record::Entry { desk, word }, Done::Called) => self.call(desk, Some(word)),
             (Record::Page { desk }, Done::Called) => self.call(desk, None),
@@ -72,15 +73,20 @@ impl Tally {
             // "an answer finds one of its own kind. The turns in an answer are the tally's."
             Turn::Written { turns } => {
                 assert_eq!(turns, call.turns);
-                self.instants[number][desk] = call.word.unwrap();
+                self.instants[number][desk] =
+                    Shown { word: call.word.unwrap(), last: number as u32 };
             }
             // "exactly the n words that stood in the rows together at the page's stated instant, later
-            // than its call and earlier than its answer"
+            // than its call and earlier than its answer", and "each number that of its row's last
+            // writing at or before the page's instant"
             Turn::Page { at, turns, .. } => {
                 let at = at as usize;
                 assert!(call.word.is_none() && turns == call.turns);
                 assert!(call.number < at && at < number);
-                assert_eq!(page, &self.instants[at][..self.n]);
+                let rows = &self.instants[at][..self.n];
+                let (words, last) = page.split_at(self.n);
+                assert!(words.iter().eq(rows.iter().map(|row| &row.word)));
+                assert!(last.iter().eq(rows.iter().map(|row| &row.last)));
             }
         }
     }
@@ -90,11 +96,13 @@ fn holds(day: &[u8]) {
     let mut tally = Tally::default();
     run_watched(day, |record, outcome, register| {
         tally.feed(record, outcome, &register.page);
-        // "After the list the day's event number and the rows' words are the tally's."
-        if let Some(words) = tally.instants.last() {
+        // "After the list the day's event number and the rows' words are the tally's." So are their
+        // numbers.
+        if let Some(shown) = tally.instants.last() {
             assert_eq!(register.day.event as usize, tally.instants.len() - 1);
-            let rows = register.table.iter().take(tally.n).map(|desk| desk.row.word);
-            assert!(rows.eq(words[..tally.n].iter().copied()));
+            let rows = register.table.iter().take(tally.n).map(|desk| desk.row);
+            let rows = rows.map(|row| Shown { word: row.word, last: row.last });
+            assert!(rows.eq(shown[..tally.n].iter().copied()));
         }
     });
 }

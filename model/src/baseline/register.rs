@@ -1,10 +1,11 @@
 //! The register as the fast day runner has it: in place, without a copy that it can do without.
 
-use crate::register::{most_reads, Refusal, Task, Turn, View, LAST_EVENT, PLACES};
+use crate::register::{most_reads, Refusal, Shown, Task, Turn, View, LAST_EVENT, PLACES};
 
 #[derive(Clone, Copy, Debug, Default, PartialEq, Eq)]
 pub struct Row {
-    pub word: u32,
+    /// Its word, and the event number of its last writing.
+    pub shown: Shown,
     pub seq: u32,
     pub at: u32,
     pub view: View,
@@ -85,14 +86,14 @@ impl Day {
         &mut self,
         table: &mut [Desk],
         desk: u32,
-        page: &mut [u32],
+        page: &mut [Shown],
     ) -> Result<Turn, Refusal> {
         let Found { i, .. } = self.find(table, Some(page.len()), desk)?;
         match table[i].task {
             Task::Idle => Err(Refusal::DeskIdle),
             Task::Ready { turns, word, at } => {
                 self.event += 1;
-                table[i].write(self.desks as usize, word, at);
+                table[i].write(self.desks as usize, Shown { word, last: self.event }, at);
                 Ok(Turn::Written { turns: turns + 1 })
             }
             Task::Page { turns } => Ok(self.page_turn(table, i, turns, page)),
@@ -100,7 +101,7 @@ impl Day {
         }
     }
 
-    fn page_turn(&mut self, table: &mut [Desk], i: usize, turns: u32, page: &mut [u32]) -> Turn {
+    fn page_turn(&mut self, table: &mut [Desk], i: usize, turns: u32, page: &mut [Shown]) -> Turn {
         let n = self.desks as usize;
         let decided = self.read(table, i, turns);
         let turns = turns + 1;
@@ -108,7 +109,7 @@ impl Day {
             table[i].task = Task::Page { turns };
             return Turn::Read;
         };
-        table[i].show(from, &mut page[..n]);
+        show(&table[i].second, from, &mut page[..n]);
         table[i].begin(n, Task::Idle);
         Turn::Page { from: from as u32, at, turns }
     }
@@ -116,12 +117,11 @@ impl Day {
     fn entry_turn(&mut self, table: &mut [Desk], i: usize, turns: u32, word: u32) -> Turn {
         let decided = self.read(table, i, turns);
         let turns = turns + 1;
-        table[i].task = match decided {
+        let Desk { task, kept, second, .. } = &mut table[i];
+        *task = match decided {
             None => Task::Entry { turns, word },
             Some(Decided { from, at }) => {
-                let mut view = table[i].kept;
-                table[i].show(from, &mut view[..self.desks as usize]);
-                table[i].kept = view;
+                show(second, from, &mut kept[..self.desks as usize]);
                 Task::Ready { turns, word, at }
             }
         };
@@ -151,13 +151,13 @@ impl Day {
     }
 
     /// The desk's record and all turns owed, or the first of 10, 6, 11 and 2 that is met. A turn says
-    /// how many words its page list has.
-    fn find(&self, table: &[Desk], words: Option<usize>, desk: u32) -> Result<Found, Refusal> {
+    /// for how many rows its page list has places.
+    fn find(&self, table: &[Desk], rows: Option<usize>, desk: u32) -> Result<Found, Refusal> {
         let n = self.desks as usize;
         if n == 0 {
             return Err(Refusal::OpenOrNot);
         }
-        if table.len() != n || words.is_some_and(|words| words < n) {
+        if table.len() != n || rows.is_some_and(|rows| rows < n) {
             return Err(Refusal::LentSize);
         }
         let owed = self.owed(table).ok_or(Refusal::CannotHaveArisen)?;
@@ -174,11 +174,11 @@ impl Day {
         }
         let most = most_reads(self.desks);
         let mut owed = 0;
-        for desk in table {
-            if desk.row.seq > self.event || desk.row.at > self.event {
+        for Desk { row, task, .. } in table {
+            if row.seq > self.event || row.at > self.event || row.shown.last > self.event {
                 return None;
             }
-            owed += match desk.task {
+            owed += match *task {
                 Task::Idle => 0,
                 Task::Page { turns } if turns < most => most - turns,
                 Task::Entry { turns, .. } if turns < most => most + 1 - turns,
@@ -195,7 +195,7 @@ impl Desk {
     fn begin(&mut self, n: usize, task: Task) {
         self.task = task;
         self.marks = [false; PLACES];
-        self.kept[..n].fill(0);
+        self.kept[..n].fill(Shown::default());
         for j in 0..n {
             self.first[j].clear(n);
             self.second[j].clear(n);
@@ -223,20 +223,9 @@ impl Desk {
         None
     }
 
-    /// The words of the second collect, or the lender's view in it.
-    fn show(&self, from: usize, page: &mut [u32]) {
-        if from > 0 {
-            page.copy_from_slice(&self.second[from - 1].view[..page.len()]);
-        } else {
-            for (word, row) in page.iter_mut().zip(&self.second) {
-                *word = row.word;
-            }
-        }
-    }
-
     /// Writes the row and ends the task.
-    fn write(&mut self, n: usize, word: u32, at: u32) {
-        self.row.word = word;
+    fn write(&mut self, n: usize, shown: Shown, at: u32) {
+        self.row.shown = shown;
         self.row.seq += 1;
         self.row.at = at;
         self.row.view[..n].copy_from_slice(&self.kept[..n]);
@@ -244,10 +233,21 @@ impl Desk {
     }
 }
 
+/// The rows of the second collect, or the lender's view in it.
+fn show(second: &[Row; PLACES], from: usize, page: &mut [Shown]) {
+    if from > 0 {
+        page.copy_from_slice(&second[from - 1].view[..page.len()]);
+    } else {
+        for (shown, row) in page.iter_mut().zip(second) {
+            *shown = row.shown;
+        }
+    }
+}
+
 impl Row {
-    /// Takes over another row, but for the words past n of its view.
+    /// Takes over another row, but for what is past n of its view.
     fn copy(&mut self, n: usize, other: &Row) {
-        self.word = other.word;
+        self.shown = other.shown;
         self.seq = other.seq;
         self.at = other.at;
         self.view[..n].copy_from_slice(&other.view[..n]);

@@ -57,6 +57,7 @@ fn run(comparison: &mut Comparison<Runner>, seed: u64) -> Checked {
     let random = mem::take(&mut comparison.model.counts);
     comparison.drawn(&CLOSING, seed)?;
     let mut reached = reached(&random, &special);
+    random.numbers.add_to(&special.numbers, &mut reached);
     comparison.model.ends.add_to(&mut reached);
     comparison.require(reached)
 }

@@ -8,7 +8,7 @@ use model::register::{most_reads, LAST_EVENT, PLACES};
 
 /// The most records of a table and the most words of a page list that are lent.
 pub const MOST_RECORDS: usize = 12;
-const MOST_PAGE: usize = 20;
+const MOST_PAGE: usize = 2 * MOST_RECORDS + 8;
 
 /// A state for some n from 1 to 8: one in ten of nothing but any numbers, the others such as are
 /// accepted, half of these with a wound.
@@ -50,7 +50,7 @@ fn anything(random: &mut Random) -> State {
     State { count, event, table, page: page_list(random, 0) }
 }
 
-/// A page list of `least` to 20 words.
+/// A page list of `least` to 32 words.
 pub fn page_list(random: &mut Random, least: usize) -> Vec<u32> {
     let more = if random.once_in(6) { 0 } else { random.below(MOST_PAGE - least + 1) };
     let words = least + more;
@@ -100,16 +100,18 @@ pub fn called(random: &mut Random) -> State {
     let mut table: Vec<Words> = vec![[0; WORDS]; n];
     for words in &mut table {
         words[ROW] = number(random);
+        words[LAST] = random.below(n + 1) as u32;
         words[KIND] = random.pick(&[PAGE, ENTRY]);
         words[TASK_WORD] = number(random);
     }
-    State { count: n as u32, event: n as u32, table, page: page_list(random, n) }
+    State { count: n as u32, event: n as u32, table, page: page_list(random, 2 * n) }
 }
 
 /// A day that is not refused with 11, with records of these tasks, rubbish as they are.
 fn with_tasks(random: &mut Random, tasks: Vec<Words>) -> State {
     let n = tasks.len();
-    let mut state = State { count: n as u32, event: 0, table: tasks, page: page_list(random, n) };
+    let page = page_list(random, 2 * n);
+    let mut state = State { count: n as u32, event: 0, table: tasks, page };
     state.event = event(random, &state);
     let rows: Vec<[u32; ROW_WORDS]> = (0..n).map(|_| row(random, state.event)).collect();
     for (own, words) in state.table.iter_mut().enumerate() {
@@ -141,6 +143,7 @@ fn up_to(random: &mut Random, event: u32) -> u32 {
 
 fn row(random: &mut Random, event: u32) -> [u32; ROW_WORDS] {
     let mut row = rubbish_row(random);
+    row[LAST] = up_to(random, event);
     row[SEQ] = up_to(random, event);
     row[AT] = up_to(random, event);
     row
@@ -166,6 +169,11 @@ fn record(random: &mut Random, own: usize, rows: &[[u32; ROW_WORDS]], words: &mu
         }
         3 => stir(random, rows.len() - 1, words),
         _ => (0..rows.len()).for_each(|j| stir(random, j, words)),
+    }
+    if random.once_in(4) {
+        // Another number under the same seq.
+        let at = place(random.pick(&[FIRST, SECOND]), random.below(rows.len()));
+        words[at + LAST] = number(random);
     }
     for j in 0..rows.len() {
         past_n(random, rows.len(), &mut words[place(FIRST, j)..]);
@@ -208,10 +216,10 @@ fn stir(random: &mut Random, j: usize, words: &mut Words) {
     }
 }
 
-/// Rubbish in the words past n of a view in a collect.
+/// Rubbish past n of a view in a collect, words and numbers.
 fn past_n(random: &mut Random, n: usize, row: &mut [u32]) {
-    for j in n..PLACES {
-        row[VIEW + j] = number(random);
+    for word in &mut row[VIEW + PAIR * n..AT] {
+        *word = number(random);
     }
 }
 
@@ -231,7 +239,6 @@ fn marks(random: &mut Random, n: usize, words: &mut Words) {
 
 /// Damages a state in one way.
 pub fn wound(random: &mut Random, state: &mut State) {
-    let n = state.count as usize;
     match random.below(15) {
         0 => state.event = LAST_EVENT + 1 + random.below(3) as u32,
         1 => state.event = number(random),
@@ -240,7 +247,10 @@ pub fn wound(random: &mut Random, state: &mut State) {
             state.count = 9 + random.below(MOST_RECORDS - 8) as u32;
             let first = state.table.first().copied().unwrap_or([0; WORDS]);
             state.table.resize(state.count as usize, first);
-            state.page = page_list(random, state.count as usize);
+            state.page = page_list(random, 2 * state.count as usize);
+            if random.once_in(3) {
+                shorten(random, state);
+            }
         }
         3 => {
             let first = state.table.first().copied().unwrap_or([0; WORDS]);
@@ -249,7 +259,7 @@ pub fn wound(random: &mut Random, state: &mut State) {
         4 if random.once_in(3) => state.count = 0,
         4 => state.count = state.count.wrapping_add(random.pick(&[1, 1 << 8, 1 << 16, 1 << 31])),
         5 => state.page = page_list(random, 0),
-        6 => state.page.truncate(n.min(state.page.len()).saturating_sub(1 + random.below(2))),
+        6 => shorten(random, state),
         7 => {
             for _ in 0..3 {
                 wound_record(random, state);
@@ -259,6 +269,14 @@ pub fn wound(random: &mut Random, state: &mut State) {
         8 => state.event = LAST_EVENT + 1 - state.owed() as u32 + random.pick(&[0, 0, 0, 1, 2]),
         _ => wound_record(random, state),
     }
+}
+
+/// Makes a page list just too short, or one for the words alone.
+fn shorten(random: &mut Random, state: &mut State) {
+    let n = (state.count as usize).min(MOST_RECORDS);
+    let least = 2 * n;
+    let words = random.pick(&[least.saturating_sub(1), least.saturating_sub(2), n]);
+    state.page.truncate(words);
 }
 
 /// Damages one record: what 11 looks at, or any of its words.
@@ -272,13 +290,14 @@ fn wound_record(random: &mut Random, state: &mut State) {
     let beyond = most_reads(n) + random.pick(&[0, 0, 1, 1 << 20, 1 << 31]);
     let any = number(random);
     let words = &mut state.table[own];
-    match random.below(8) {
+    match random.below(9) {
         0 => words[SEQ] = above,
         1 => words[AT] = above,
-        2 => (words[KIND], words[TURNS]) = (PAGE, beyond),
-        3 => (words[KIND], words[TURNS]) = (ENTRY, beyond),
-        4 => (words[KIND], words[TURNS]) = (READY, beyond + 1),
-        5 => words[KIND] = random.pick(&[4, 5, 255, 256, 257, 1 << 16, (1 << 16) + 1, u32::MAX]),
+        2 => words[LAST] = above,
+        3 => (words[KIND], words[TURNS]) = (PAGE, beyond),
+        4 => (words[KIND], words[TURNS]) = (ENTRY, beyond),
+        5 => (words[KIND], words[TURNS]) = (READY, beyond + 1),
+        6 => words[KIND] = random.pick(&[4, 5, 255, 256, 257, 1 << 16, (1 << 16) + 1, u32::MAX]),
         _ => words[random.below(WORDS)] = any,
     }
 }

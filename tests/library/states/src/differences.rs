@@ -88,7 +88,7 @@ pub fn state_lines(state: &State) -> String {
             }
         }
         let _ = writeln!(text, "  first collect ended by turn {}", words[FIRST_ENDED]);
-        let _ = writeln!(text, "  kept view {:?}", &words[KEPT..MARKS]);
+        let _ = writeln!(text, "  kept view {}", view_text(&words[KEPT..MARKS]));
         let _ = writeln!(text, "  marks {:?}", &words[MARKS..]);
     }
     let _ = writeln!(text, "page list: {:?}", state.page);
@@ -97,7 +97,14 @@ pub fn state_lines(state: &State) -> String {
 
 fn row_text(words: &Words, at: usize) -> String {
     let row = &words[at..at + ROW_WORDS];
-    format!("word {}, seq {}, view {:?}, at {}", row[ROW], row[SEQ], &row[VIEW..AT], row[AT])
+    let (word, last, seq, at) = (row[ROW], row[LAST], row[SEQ], row[AT]);
+    format!("word {word}, last {last}, seq {seq}, view {}, at {at}", view_text(&row[VIEW..AT]))
+}
+
+/// The pairs of a view, word and number.
+fn view_text(view: &[u32]) -> String {
+    let pairs: Vec<&[u32]> = view.chunks(PAIR).collect();
+    format!("{pairs:?}")
 }
 
 fn task_text(words: &Words) -> String {

@@ -185,16 +185,16 @@ pub fn run(state: &State, run: &Run) -> Result<Ran, String> {
     Ok(Ran { outcome: lent.outcome(raw)?, run: Run { desks, answers, pages } })
 }
 
-/// The turns of a run that is not refused one by one, by `nq_turn`. Each is lent the n words of the
+/// The turns of a run that is not refused one by one, by `nq_turn`. Each is lent the 2n words of the
 /// page table that are its own.
 pub fn one_by_one(state: &State, run: &Run) -> Result<Ran, String> {
-    let n = state.count as usize;
+    let size = 2 * state.count as usize;
     let mut lent = Lent::new(state);
     let (table, records) = lent.table.lend();
     let mut ran = run.clone();
     let mut raw = RawReply { count: state.count, event: state.event, ..RawReply::default() };
     for (i, &desk) in run.desks.iter().enumerate() {
-        let own = &mut ran.pages[i * n..(i + 1) * n];
+        let own = &mut ran.pages[i * size..(i + 1) * size];
         let mut list = Guarded::new(own, GUARD);
         let (page, words) = list.lend();
         // SAFETY: as above.

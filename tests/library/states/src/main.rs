@@ -189,7 +189,7 @@ impl Driver {
     /// a run.
     fn grown(&mut self, random: &mut Random) -> Checked {
         let file = random_day(random.draw());
-        let mut state = State { page: page_list(random, 8), ..State::default() };
+        let mut state = State { page: page_list(random, 2 * PLACES), ..State::default() };
         let (mut before, mut desks) = (state.clone(), Vec::new());
         let mut place = 0;
         loop {

@@ -1,5 +1,6 @@
 //! What the states have reached, counted from the model's own outcomes, and what they must reach.
 
+mod numbers;
 mod runs;
 
 use crate::record::*;
@@ -8,7 +9,7 @@ use model::counts::Reached;
 use model::register::{most_reads, LAST_EVENT, PLACES};
 use std::collections::BTreeMap;
 
-const LAST: u64 = LAST_EVENT as u64;
+const LAST_NUMBER: u64 = LAST_EVENT as u64;
 
 /// Counts above this stand in one column.
 const LAST_COLUMN: usize = 12;
@@ -36,13 +37,19 @@ const REQUIRED: &[(&str, usize, usize)] = &[
     ("accepted with a seq as large as the event number", 1, 8),
     ("accepted with an at as large as the event number", 1, 8),
     ("event 65,535", 1, 8),
-    ("reads into places with words past n that stay", 1, 7),
-    ("kept views with words past n that stay", 1, 7),
-    ("rows written with words past n that stay", 1, 7),
-    ("page lists with words past n that stay", 1, 8),
-    ("page lists of just n words", 1, 8),
+    (READ_PAST[0], 1, 7),
+    (READ_PAST[1], 1, 7),
+    (KEPT_PAST[0], 1, 7),
+    (KEPT_PAST[1], 1, 7),
+    (WRITTEN_PAST[0], 1, 7),
+    (WRITTEN_PAST[1], 1, 7),
+    ("page lists with words past 2n that stay", 1, 8),
+    ("page lists of just 2n words", 1, 8),
     ("collects' rows past n that stay at a call or an answer", 1, 7),
-    ("words past n that stay where a call or an answer clears", 1, 7),
+    (CLEARED_PAST[0], 1, 7),
+    (CLEARED_PAST[1], 1, 7),
+    (CLEARED_KEPT_PAST[0], 1, 7),
+    (CLEARED_KEPT_PAST[1], 1, 7),
     ("marks past n unset by a call or an answer", 1, 7),
     ("marks past n that stay over a read", 1, 7),
     ("own marks other than 0 and 1 made 1", 1, 8),
@@ -72,12 +79,15 @@ const REQUIRED: &[(&str, usize, usize)] = &[
     ("refusal 6 of an opening by the table", 1, 8),
     ("refusal 6 by the table", 1, 12),
     ("refusal 6 by the page list", 1, 12),
+    ("refusal 6 by a page list of 2n-1 words", 1, 12),
+    ("refusal 6 by a page list of n words", 1, 12),
     ("refusal 8", 0, 8),
     ("refusal 10 of a call or a turn", 0, 0),
     ("refusal 10 of an opening", 1, 8),
     ("refusal 11", 1, 12),
     (COUNT_ABOVE, 9, 12),
     (EVENT_ABOVE, 1, 8),
+    (LAST_ABOVE, 1, 8),
     (SEQ_ABOVE, 1, 8),
     (AT_ABOVE, 1, 8),
     (PAGE_BEYOND, 1, 8),
@@ -97,6 +107,7 @@ const REQUIRED: &[(&str, usize, usize)] = &[
 
 const COUNT_ABOVE: &str = "refusal 11 alone by a count above 8, with as many records";
 const EVENT_ABOVE: &str = "refusal 11 alone by an event number above 65,535";
+const LAST_ABOVE: &str = "refusal 11 alone by a row's last above the event number";
 const SEQ_ABOVE: &str = "refusal 11 alone by a seq above the event number";
 const AT_ABOVE: &str = "refusal 11 alone by an at above the event number";
 const PAGE_BEYOND: &str = "refusal 11 alone by a page's turns beyond 2n²-1";
@@ -104,6 +115,24 @@ const ENTRY_BEYOND: &str = "refusal 11 alone by an entry's turns beyond 2n²-1";
 const READY_BEYOND: &str = "refusal 11 alone by a ready entry's turns beyond 2n²";
 const OWED_ABOVE: &str = "refusal 11 alone by event number and turns owed above 65,535";
 const UNKNOWN_TASK: &str = "refusal 11 alone by an unknown task kind";
+
+/// Words and numbers of a view past n.
+const READ_PAST: [&str; PAIR] = [
+    "reads into places with words past n that stay",
+    "reads into places with numbers past n that stay",
+];
+const KEPT_PAST: [&str; PAIR] =
+    ["kept views with words past n that stay", "kept views with numbers past n that stay"];
+const WRITTEN_PAST: [&str; PAIR] =
+    ["rows written with words past n that stay", "rows written with numbers past n that stay"];
+const CLEARED_PAST: [&str; PAIR] = [
+    "words past n that stay where a call or an answer clears a collect",
+    "numbers past n that stay where a call or an answer clears a collect",
+];
+const CLEARED_KEPT_PAST: [&str; PAIR] = [
+    "words past n that stay where a call or an answer clears a kept view",
+    "numbers past n that stay where a call or an answer clears a kept view",
+];
 
 /// What the reader must have met.
 const READER: &[&str] = &[
@@ -140,7 +169,7 @@ impl Counts {
     /// All that must be reached, with its counts.
     pub fn reached(&self) -> Reached {
         let mut reached = Reached::default();
-        for &(name, from, to) in REQUIRED.iter().chain(runs::REQUIRED) {
+        for &(name, from, to) in REQUIRED.iter().chain(numbers::REQUIRED).chain(runs::REQUIRED) {
             let columns = match (from, to) {
                 (0, 0) => String::new(),
                 _ => format!(", n = {from} to {to}"),
@@ -193,6 +222,7 @@ impl Counts {
         self.add(name, if opening && refusal == 6 { request.process as usize } else { n });
         match refusal {
             5 => self.full(before, request),
+            6 if name == "refusal 6 by the page list" => self.page_short(n, before.page.len()),
             11 => self.cannot_have_arisen(before, request),
             _ => {}
         }
@@ -207,9 +237,15 @@ impl Counts {
             (false, true) => "entry calls refused 5 for want of one event, nobody waiting",
             (false, false) => "entry calls refused 5 for want of one event, others waiting",
         };
-        self.add_if(call_needs(before, request) == LAST + 1, name, n);
-        let owed = before.owed() > 0 && work_needs(before) == LAST;
+        self.add_if(call_needs(before, request) == LAST_NUMBER + 1, name, n);
+        let owed = before.owed() > 0 && work_needs(before) == LAST_NUMBER;
         self.add_if(owed, "calls refused 5 where event number and turns owed are 65,535", n);
+    }
+
+    /// A turn whose page list is too short.
+    fn page_short(&mut self, n: usize, words: usize) {
+        self.add_if(words + 1 == 2 * n, "refusal 6 by a page list of 2n-1 words", n);
+        self.add_if(words == n, "refusal 6 by a page list of n words", n);
     }
 
     /// A call or a turn that is refused with 11.
@@ -217,10 +253,13 @@ impl Counts {
         let n = before.count as usize;
         if let [cause] = causes(before).as_slice() {
             self.add(cause, n);
-            let just = *cause == OWED_ABOVE && work_needs(before) == LAST + 1;
+            let just = *cause == OWED_ABOVE && work_needs(before) == LAST_NUMBER + 1;
             let turn = request.kind == TURN;
             self.add_if(just && !turn, "calls refused 11 where they are 65,536 alone", n);
             self.add_if(just && turn, "turns refused 11 where they are 65,536 alone", n);
+            if *cause == LAST_ABOVE {
+                self.last_above(before, turn);
+            }
         }
     }
 
@@ -257,7 +296,7 @@ impl Counts {
             (false, true) => "entry calls just taken, nobody waiting",
             (false, false) => "entry calls just taken, others waiting",
         };
-        self.add_if(call_needs(before, request) == LAST, just, n);
+        self.add_if(call_needs(before, request) == LAST_NUMBER, just, n);
         self.accepted(before, request, outcome);
         self.cleared(before, request);
     }
@@ -270,6 +309,7 @@ impl Counts {
         let equal = |word: usize| before.table.iter().any(|words| words[word] == before.event);
         self.add_if(equal(SEQ), "accepted with a seq as large as the event number", n);
         self.add_if(equal(AT), "accepted with an at as large as the event number", n);
+        self.numbers_accepted(before);
         self.add_if(strange(own), "words that the own task does not have made 0", n);
         for (j, words) in before.table.iter().enumerate() {
             if j + 1 != request.process as usize {
@@ -288,41 +328,52 @@ impl Counts {
         self.add_if(marks, "marks past n unset by a call or an answer", n);
         let rows = own[place(SECOND, n)..FIRST_ENDED].iter().any(|&word| word != 0);
         self.add_if(rows, "collects' rows past n that stay at a call or an answer", n);
-        let words = own[place(SECOND, 0) + VIEW + n..place(SECOND, 0) + AT].iter();
-        let words = words.chain(&own[KEPT + n..MARKS]).any(|&word| word != 0);
-        self.add_if(words, "words past n that stay where a call or an answer clears", n);
+        let blank = [0; PAIR * PLACES];
+        self.past_n(CLEARED_PAST, n, view(own, place(SECOND, 0)), &blank);
+        self.past_n(CLEARED_KEPT_PAST, n, &own[KEPT..MARKS], &blank);
+    }
+
+    /// Counts words and numbers past n in which two views differ: what stays was not put there.
+    fn past_n(&mut self, names: [&'static str; PAIR], n: usize, stays: &[u32], other: &[u32]) {
+        for (part, name) in names.into_iter().enumerate() {
+            let mut past = (PAIR * n + part..stays.len()).step_by(PAIR);
+            self.add_if(past.any(|word| stays[word] != other[word]), name, n);
+        }
     }
 
     fn turned(&mut self, before: &State, request: Request, outcome: &Outcome) {
         let n = before.count as usize;
-        self.add_if(work_needs(before) == LAST, "turns accepted where they are 65,535", n);
+        self.add_if(work_needs(before) == LAST_NUMBER, "turns accepted where they are 65,535", n);
         self.accepted(before, request, outcome);
         match outcome.reply.kind {
             READ => self.read(before, request, outcome),
-            PAGE_ANSWER => self.page(before, request, outcome.reply),
-            _ => self.written(before, request, outcome.reply),
+            PAGE_ANSWER => self.page(before, request, outcome),
+            _ => self.written(before, request, outcome),
         }
     }
 
-    fn page(&mut self, before: &State, request: Request, reply: Reply) {
+    fn page(&mut self, before: &State, request: Request, outcome: &Outcome) {
         let n = before.count as usize;
+        let reply = outcome.reply;
         self.add_if(reply.lender == 0, "clean pages", n);
         self.add_if(reply.lender != 0, "borrowed pages", n);
         let lender = reply.lender as usize;
         self.add_if(lender != 0, "pages borrowed from desk n, whatever the count", lender);
         self.add_if(reply.turns == most_reads(before.count), "pages of 2n² turns", n);
-        self.add_if(before.page.len() > n, "page lists with words past n that stay", n);
-        self.add_if(before.page.len() == n, "page lists of just n words", n);
+        self.add_if(before.page.len() > 2 * n, "page lists with words past 2n that stay", n);
+        self.add_if(before.page.len() == 2 * n, "page lists of just 2n words", n);
+        self.numbers_shown(before, request, outcome);
         self.cleared(before, request);
     }
 
-    fn written(&mut self, before: &State, request: Request, reply: Reply) {
+    fn written(&mut self, before: &State, request: Request, outcome: &Outcome) {
         let n = before.count as usize;
         let own = &before.table[request.process as usize - 1];
+        let most = outcome.reply.turns == most_reads(before.count) + 1;
         self.add("entries written", n);
-        self.add_if(reply.turns == most_reads(before.count) + 1, "entries of 2n²+1 turns", n);
-        let words = own[KEPT + n..MARKS] != own[VIEW + n..AT];
-        self.add_if(words, "rows written with words past n that stay", n);
+        self.add_if(most, "entries of 2n²+1 turns", n);
+        self.past_n(WRITTEN_PAST, n, view(own, ROW), &own[KEPT..MARKS]);
+        self.number_written(own, outcome);
         self.cleared(before, request);
     }
 
@@ -337,14 +388,16 @@ impl Counts {
             true => (place(FIRST, p), p),
             false => (place(SECOND, p - n), p - n),
         };
-        let words = own[at + VIEW + n..at + AT] != before.table[row][VIEW + n..AT];
-        self.add_if(words, "reads into places with words past n that stay", n);
+        self.past_n(READ_PAST, n, view(own, at), view(&before.table[row], ROW));
         let past = own[MARKS + n..].iter().any(|&mark| mark != 0);
         self.add_if(past, "marks past n that stay over a read", n);
         let marks = own[MARKS..].iter().any(|&mark| mark > 1);
         self.add_if(marks, "own marks other than 0 and 1 made 1", n);
         if p == 2 * n - 1 {
             self.ended(before.count, own, after);
+        }
+        if after[KIND] == READY {
+            self.numbers_kept(n, after);
         }
     }
 
@@ -358,8 +411,7 @@ impl Counts {
             self.add_if(!differs, "entries that found a clean page", n);
             let marked = (MARKS..MARKS + n).any(|mark| own[mark] == 0 && after[mark] != 0);
             self.add_if(marked, "entries that marked a desk before the lender", n);
-            let words = own[KEPT + n..MARKS].iter().any(|&word| word != 0);
-            self.add_if(words, "kept views with words past n that stay", n);
+            self.past_n(KEPT_PAST, n, &own[KEPT..MARKS], &[0; PAIR * PLACES]);
             return;
         }
         self.add("double collects ended without a page", n);
@@ -386,6 +438,11 @@ impl Counts {
         };
         self.add(name, 0);
     }
+}
+
+/// The view of the row that begins at this word.
+fn view(words: &Words, row: usize) -> &[u32] {
+    &words[row + VIEW..row + AT]
 }
 
 /// The last event number that all work under way can need.
@@ -420,13 +477,14 @@ fn causes(state: &State) -> Vec<&'static str> {
     let turns = |words: &Words, kind: u32, most: u32| words[KIND] == kind && words[TURNS] > most;
     let parts = [
         (state.event > LAST_EVENT, EVENT_ABOVE),
+        (any(&|words| words[LAST] > state.event), LAST_ABOVE),
         (any(&|words| words[SEQ] > state.event), SEQ_ABOVE),
         (any(&|words| words[AT] > state.event), AT_ABOVE),
         (any(&|words| turns(words, PAGE, most - 1)), PAGE_BEYOND),
         (any(&|words| turns(words, ENTRY, most - 1)), ENTRY_BEYOND),
         (any(&|words| turns(words, READY, most)), READY_BEYOND),
         // An event number above 65,535 is a cause of its own.
-        (state.event <= LAST_EVENT && work_needs(state) > LAST, OWED_ABOVE),
+        (state.event <= LAST_EVENT && work_needs(state) > LAST_NUMBER, OWED_ABOVE),
         (any(&|words| words[KIND] > READY), UNKNOWN_TASK),
     ];
     parts.iter().filter(|part| part.0).map(|part| part.1).collect()

@@ -2,7 +2,7 @@
 //! that they need.
 
 use crate::damage::{number, MOST_RECORDS};
-use crate::record::{Words, IDLE, KIND, PAGE, ROW, WORDS};
+use crate::record::{Words, IDLE, KIND, LAST, PAGE, ROW, WORDS};
 use crate::requests::near;
 use crate::state::*;
 use model::random::Random;
@@ -51,13 +51,13 @@ fn desk(random: &mut Random, n: u32, favourites: &[u32]) -> u32 {
 }
 
 /// A list with tables that are longer than it needs, just long enough, or too short: by one place, by
-/// one word, by both, or by any number.
+/// one word, by both, by the numbers of last writings, or by any number.
 pub fn with_tables(random: &mut Random, count: u32, desks: Vec<u32>) -> Run {
     let turns = desks.len();
     // A larger count has not as many records, so that its run does not come to the page table.
-    let needed = turns * (count as usize).min(MOST_RECORDS);
+    let needed = 2 * turns * (count as usize).min(MOST_RECORDS);
     let (places, words) = (turns + random.below(MOST_MORE), needed + random.below(MOST_MORE));
-    let (places, words) = match random.below(10) {
+    let (places, words) = match random.below(12) {
         0 => (turns, needed),
         1 => (turns, words),
         2 => (places, needed),
@@ -65,6 +65,7 @@ pub fn with_tables(random: &mut Random, count: u32, desks: Vec<u32>) -> Run {
         4 => (places, needed.saturating_sub(1)),
         5 => (turns.saturating_sub(1), needed.saturating_sub(1)),
         6 => (random.below(turns + 1), random.below(needed + 1)),
+        7 => (places, needed / 2),
         _ => (places, words),
     };
     let answers = (0..places).map(|_| std::array::from_fn(|_| number(random))).collect();
@@ -85,6 +86,7 @@ pub fn long(random: &mut Random, n: usize) -> (State, Run) {
     let mut table: Vec<Words> = vec![[0; WORDS]; n];
     for words in &mut table {
         words[ROW] = number(random);
+        words[LAST] = random.below(2) as u32;
     }
     table[0][KIND] = PAGE;
     // Desks 2 to n are idle, and desks 0 and n + 1 are none.
@@ -93,13 +95,13 @@ pub fn long(random: &mut Random, n: usize) -> (State, Run) {
     desks[..n].fill(1);
     desks[LONG - n..].fill(1);
     let answers = vec![[number(random); 7]; LONG];
-    let pages = vec![number(random); LONG * n];
+    let pages = vec![number(random); LONG * 2 * n];
     (State { count: n as u32, event: 1, table, page: Vec::new() }, Run { desks, answers, pages })
 }
 
 /// A count far above 8, with as many records, and a run that needs 2^32 words, of which it is lent few.
 pub fn vast() -> (State, Run) {
-    let (records, turns) = (1 << 13, 1 << 19);
+    let (records, turns) = (1 << 12, 1 << 19);
     let table = vec![[0; WORDS]; records];
     let run = Run { desks: vec![1; turns], answers: vec![[7; 7]; turns], pages: vec![7; records] };
     (State { count: records as u32, event: 1, table, page: Vec::new() }, run)

@@ -3,7 +3,8 @@
 use crate::record::{unpack_task, Words};
 use model::register::PLACES;
 
-/// A day, its table and a page list. Any words may stand in it.
+/// A day, its table and a page list, which takes n words and then n numbers of last writings. Any words
+/// may stand in it.
 #[derive(Clone, Debug, Default, PartialEq, Eq)]
 pub struct State {
     pub count: u32,

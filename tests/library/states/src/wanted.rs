@@ -74,7 +74,7 @@ fn turned(turn: Turn) -> Reply {
 }
 
 /// "An accepted opening sets every word of every record to 0. An accepted call or turn writes the one
-/// record of its desk, all 208 words [...]; no other record is written."
+/// record of its desk", all 369 words; "no other record is written."
 fn written(before: &State, request: Request, after: &[Desk]) -> Vec<Words> {
     if request.kind == OPENING {
         assert!(after.iter().all(|desk| *desk == Desk::default()), "the model's opening");

@@ -8,13 +8,15 @@ use states::wanted::wanted_run;
 fn day() -> State {
     let mut table: Vec<Words> = vec![[5; WORDS]; 2];
     (table[0][KIND], table[0][TURNS]) = (PAGE, 3);
+    table[0][place(SECOND, 0) + LAST] = 4;
+    table[1][LAST] = 9;
     table[1][KIND] = IDLE;
-    State { count: 2, event: 9, table, page: vec![6; 3] }
+    State { count: 2, event: 9, table, page: vec![6; 5] }
 }
 
 /// A run with a place and a word more than it needs.
 fn run(desks: &[u32]) -> Run {
-    let (answers, pages) = (vec![[7; 7]; desks.len() + 1], vec![8; 2 * desks.len() + 1]);
+    let (answers, pages) = (vec![[7; 7]; desks.len() + 1], vec![8; 4 * desks.len() + 1]);
     Run { desks: desks.to_vec(), answers, pages }
 }
 
@@ -25,7 +27,7 @@ fn a_turn_sets_its_own_places_and_record() {
     assert_eq!(ran.outcome.reply, Reply::plain(RAN));
     let idle = |event| [2, event, REFUSED, 4, 0, 0, 0];
     assert_eq!(ran.run.answers, [idle(9), [2, 10, PAGE_ANSWER, 0, 0, 5, 4], idle(10), [7; 7]]);
-    assert_eq!(ran.run.pages, [8, 8, 5, 5, 8, 8, 8]);
+    assert_eq!(ran.run.pages, [8, 8, 8, 8, 5, 5, 4, 9, 8, 8, 8, 8, 8]);
     assert_eq!(ran.run.desks, [2, 1, 1]);
     let after = ran.outcome.after;
     assert_eq!((after.count, after.event, &after.page), (2, 10, &before.page));
@@ -43,14 +45,14 @@ fn unknown_tasks_refuse_the_turns() {
         ran.run.answers,
         [[2, 9, REFUSED, 11, 0, 0, 0], [2, 9, REFUSED, 11, 0, 0, 0], [7; 7]]
     );
-    assert_eq!(ran.run.pages, [8; 5]);
+    assert_eq!(ran.run.pages, [8; 9]);
 }
 
 #[test]
 fn unknown_tasks_do_not_refuse_the_run() {
     let mut before = day();
     before.table[1][KIND] = 4;
-    let short = Run { pages: vec![8; 3], ..run(&[1, 3]) };
+    let short = Run { pages: vec![8; 7], ..run(&[1, 3]) };
     let more = State { count: 3, ..before.clone() };
     let closed = State { count: 0, ..before.clone() };
     for (state, refusal) in [(before, 13), (more, 6), (closed, 10)] {

@@ -8,7 +8,7 @@ use states::wanted::wanted;
 fn day(kind: u32) -> State {
     let mut table: Vec<Words> = vec![[0; WORDS]; 2];
     table[1][KIND] = kind;
-    State { count: 2, event: 7, table, page: vec![5; 2] }
+    State { count: 2, event: 7, table, page: vec![5; 4] }
 }
 
 /// The refusal of a request, which changes nothing.
@@ -36,7 +36,7 @@ fn ahead_of_whatever_a_desk_does() {
 fn behind_the_day_and_the_sizes() {
     let closed = State { count: 0, ..day(4) };
     let more = State { count: 1, ..day(4) };
-    let short = State { page: vec![5], ..day(4) };
+    let short = State { page: vec![5; 3], ..day(4) };
     for kind in [ENTRY_CALL, PAGE_CALL, TURN] {
         assert_eq!(refusal(&closed, kind, 1), 10);
         assert_eq!(refusal(&more, kind, 1), 6);

@@ -14,6 +14,7 @@ pub const REQUIRED: &[(&str, usize, usize)] = &[
     ("runs with a page and an entry", 2, 8),
     ("runs that read after an entry", 2, 8),
     ("runs with a page behind a refused turn", 1, 8),
+    ("runs with a page whose numbers are not its words", 1, 8),
     ("runs with a page in the last place of two tables just long enough", 1, 8),
     ("runs that go on after refusal 2", 1, 8),
     ("runs that go on after refusal 4", 2, 8),
@@ -28,7 +29,7 @@ pub const REQUIRED: &[(&str, usize, usize)] = &[
     ("runs to event 65,535", 1, 8),
     ("runs with just as many places", 1, 12),
     ("runs with more places", 1, 12),
-    ("runs with just n words a turn", 1, 12),
+    ("runs with just 2n words a turn", 1, 12),
     ("runs with more words", 1, 12),
     ("runs with both tables just long enough", 1, 12),
     ("empty lists", 1, 12),
@@ -37,6 +38,7 @@ pub const REQUIRED: &[(&str, usize, usize)] = &[
     ("runs refused 13 by one place", 1, 12),
     ("runs refused 13 by one word", 1, 12),
     ("runs refused 13 by one place and one word", 1, 12),
+    ("runs refused 13 with n words a turn", 1, 12),
     ("runs refused 13 on a day that cannot have arisen", 1, 12),
     ("runs of more than 65,536 turns refused 13 by one place", 1, 8),
     ("runs of more than 65,536 turns refused 13 by one word", 1, 8),
@@ -69,7 +71,7 @@ impl Counts {
     fn run_refused(&mut self, before: &State, run: &Run, refusal: u32, unknown_task: bool) {
         let n = before.count as usize;
         let (turns, places, words) = (run.desks.len(), run.answers.len(), run.pages.len());
-        let short = places < turns || (words as u128) < turns as u128 * n as u128;
+        let short = places < turns || (words as u128) < 2 * turns as u128 * n as u128;
         match refusal {
             10 => {
                 self.add("runs refused 10", n);
@@ -94,12 +96,14 @@ impl Counts {
     /// A run that is refused with 13. There is a record for each of the n desks.
     fn table_short(&mut self, n: usize, run: &Run) {
         let (turns, places, words) = (run.desks.len(), run.answers.len(), run.pages.len());
-        let needed = turns * n;
+        let needed = 2 * turns * n;
         let (place, word) = (places + 1 == turns, words + 1 == needed);
         self.add_if(place && word, "runs refused 13 by one place and one word", n);
         let (by_place, by_word) = (place && words >= needed, word && places >= turns);
         self.add_if(by_place, "runs refused 13 by one place", n);
         self.add_if(by_word, "runs refused 13 by one word", n);
+        let no_numbers = places >= turns && words == turns * n;
+        self.add_if(no_numbers, "runs refused 13 with n words a turn", n);
         if turns > 1 << 16 {
             self.add_if(by_place, "runs of more than 65,536 turns refused 13 by one place", n);
             self.add_if(by_word, "runs of more than 65,536 turns refused 13 by one word", n);
@@ -121,10 +125,10 @@ impl Counts {
     fn given(&mut self, before: &State, ran: &Ran) {
         let n = before.count as usize;
         let turns = ran.run.desks.len();
-        let (places, words) = (ran.run.answers.len() - turns, ran.run.pages.len() - turns * n);
+        let (places, words) = (ran.run.answers.len() - turns, ran.run.pages.len() - 2 * turns * n);
         self.add_if(places == 0, "runs with just as many places", n);
         self.add_if(places > 0, "runs with more places", n);
-        self.add_if(words == 0, "runs with just n words a turn", n);
+        self.add_if(words == 0, "runs with just 2n words a turn", n);
         self.add_if(words > 0, "runs with more words", n);
         let just = places == 0 && words == 0;
         self.add_if(just, "runs with both tables just long enough", n);
@@ -136,6 +140,7 @@ impl Counts {
         let every = idle(before) == 0 && idle(&ran.outcome.after) == n;
         self.add_if(every, "runs that answer every desk", n);
         self.answers(before, replies);
+        self.pages(n, &ran.run);
         self.order(n, &ran.run.desks, replies);
     }
 
@@ -160,6 +165,15 @@ impl Counts {
             let name = "runs with nothing but refusal 11 by an unknown task kind alone";
             self.add_if(alone, name, n);
         }
+    }
+
+    /// The pages of a run: turn i's begins at word 2n · i.
+    fn pages(&mut self, n: usize, run: &Run) {
+        let mut pages = run.pages.chunks(2 * n).zip(&run.answers).take(run.desks.len());
+        let apart = |(page, reply): (&[u32], &Place)| {
+            kind(reply) == PAGE_ANSWER && page[..n] != page[n..2 * n]
+        };
+        self.add_if(pages.any(apart), "runs with a page whose numbers are not its words", n);
     }
 
     /// Which answers of a run come after which.
