@@ -5,7 +5,7 @@
 #include "../bindings/c/nelvaquist.h"
 
 static struct nq_desk table[NQ_MOST_DESKS];
-static uint32_t page[NQ_MOST_DESKS];
+static uint32_t page[2 * NQ_MOST_DESKS];
 static unsigned char file[1 << 24];
 
 int main(void)
@@ -21,7 +21,7 @@ int main(void)
             break;
         if (lent > NQ_MOST_DESKS)
             lent = 0;
-        day = nq_step(day.count, day.event, table, lent, request.kind, request.desk, request.word, page, NQ_MOST_DESKS);
+        day = nq_step(day.count, day.event, table, lent, request.kind, request.desk, request.word, page, 2 * NQ_MOST_DESKS);
         at += request.next;
     }
     printf("%lu\n", (unsigned long)day.event);

@@ -8,7 +8,7 @@
 #define TURNS 64
 
 static struct nq_desk table[NQ_MOST_DESKS];
-static uint32_t desks[TURNS], pages[TURNS * NQ_MOST_DESKS], waits[NQ_MOST_DESKS + 1];
+static uint32_t desks[TURNS], pages[TURNS * 2 * NQ_MOST_DESKS], waits[NQ_MOST_DESKS + 1];
 static struct nq_reply replies[TURNS];
 
 int main(int given, char **words)
@@ -26,10 +26,10 @@ int main(int given, char **words)
                 waits[desk] = 1;
             }
         if (runs)
-            day = nq_run(day.count, day.event, table, n, desks, TURNS, replies, TURNS, pages, TURNS * n);
+            day = nq_run(day.count, day.event, table, n, desks, TURNS, replies, TURNS, pages, TURNS * 2 * n);
         else
             for (int i = 0; i < TURNS; i++)
-                replies[i] = day = nq_turn(day.count, day.event, table, n, desks[i], pages + i * n, n);
+                replies[i] = day = nq_turn(day.count, day.event, table, n, desks[i], pages + 2 * n * i, 2 * n);
         for (int i = 0; i < TURNS; i++)
             if (replies[i].answer == NQ_PAGE)
                 waits[desks[i]] = 0;

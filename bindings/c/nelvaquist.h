@@ -3,23 +3,24 @@
  * Each desk owns one row, which holds a word of 32 bits. A desk writes its row by an entry and reads
  * all rows together by a page. Both begin with a call and go on by turns, which the caller hands out
  * to the desks in any order; a turn reads or writes one row. A page shows what stood in the rows at
- * one instant between its call and its answer, however the turns of other desks fall between its own.
- * A day has at most 65,535 events, and a call is taken only if it and all calls under way can be ended
- * within them. example.c, beside this file, is a whole day.
+ * one instant between its call and its answer, however the turns of other desks fall between its own,
+ * and how fresh each row was: the number of the event that last wrote it by that instant. A day has at
+ * most 65,535 events, and a call is taken only if it and all calls under way can be ended within them.
+ * example.c, beside this file, is a whole day.
  *
  * The caller keeps all that the register knows, and lends it to every request:
  *
  *   the day        its desk count n, 0 before the opening, and its event number. They are passed by
  *                  value: 0 and 0 at first, then those of the reply before.
  *   the table      n desk records, that of desk 1 first: an array, or calloc(n, sizeof *table)
- *   the page list  words in which a page is answered, for turns only
+ *   the page list  2n words in which a page is answered, or more, for turns only
  *
  * Many turns can be given at once, as a run (nq_run), which takes a list of desks and, in place of a
  * page list, two tables for what the turns answer.
  *
  * The library keeps nothing between calls, allocates nothing and does no input or output. What it is
  * lent stays the caller's. Calls that are lent different things may run at once in any threads. It
- * needs memcpy and memset, and less than 4 KiB of stack.
+ * needs memcpy and memset, and less than 8 KiB of stack.
  *
  * The caller must hold to this, even for a request that will be refused:
  *
@@ -46,38 +47,46 @@
 extern "C" {
 #endif
 
-/* Changes whenever a function, a parameter or the layout of a struct here does. Tables are kept for one
- * version; but version 2 only adds nq_run, and takes tables of version 1. */
-#define NQ_VERSION 2
+/* Changes whenever a function, a parameter or the layout of a struct here does. Tables are kept for
+ * one version. Those of versions 1 and 2, whose records have 208 words, cannot be taken over: a day
+ * that was begun with one of these is ended with it. */
+#define NQ_VERSION 3
 
 #define NQ_MOST_DESKS 8
 #define NQ_LAST_EVENT 65535 /* the number of the last event that a day can have */
 
-/* A desk's row, or one that a desk has read. On a day for n desks the first n words of a view count;
+/* What a page shows of a row. */
+struct nq_value {
+    uint32_t word;
+    uint32_t last; /* the number of the event that had last written the row, 0 if none had */
+};
+
+/* A desk's row, or one that a desk has read. On a day for n desks the first n values of a view count;
  * those past n stay until an opening. */
 struct nq_row {
     uint32_t word;
-    uint32_t seq;                 /* how often the row has been written */
-    uint32_t view[NQ_MOST_DESKS]; /* the page that its desk found before it last wrote */
-    uint32_t at;                  /* the instant of that page */
+    uint32_t last;                       /* the event number of its last writing, 0 if none */
+    uint32_t seq;                        /* how often the row has been written */
+    struct nq_value view[NQ_MOST_DESKS]; /* the page that its desk found before it last wrote */
+    uint32_t at;                         /* the instant of that page */
 };
 
-/* The record of a desk: 208 words without padding, which can be kept and sent as they are. On a day
+/* The record of a desk: 369 words without padding, which can be kept and sent as they are. On a day
  * for n desks the first n rows of a collect count; those past n stay until an opening.
  *
  * A page and an entry read rows 1 to n into `first` and then into `second`, over what they read
  * before; after t turns the next read is number t mod 2n, from 0, of these. */
 struct nq_desk {
-    struct nq_row row;                   /* the desk's own */
-    uint32_t task;                       /* NQ_IDLE to NQ_READY_ENTRY */
-    uint32_t word;                       /* the new word of an entry */
-    uint32_t at;                         /* the instant of the view that a ready entry keeps */
-    uint32_t turns;                      /* the accepted turns since the call */
-    struct nq_row first[NQ_MOST_DESKS];  /* the first collect: the rows as read */
-    struct nq_row second[NQ_MOST_DESKS]; /* the second collect */
-    uint32_t first_ended;                /* the event number of the turn that ended the first */
-    uint32_t kept_view[NQ_MOST_DESKS];   /* the page that a ready entry keeps for its row */
-    uint32_t marks[NQ_MOST_DESKS];       /* of each desk, whether it was seen to write: 0 no, else yes */
+    struct nq_row row;                        /* the desk's own */
+    uint32_t task;                            /* NQ_IDLE to NQ_READY_ENTRY */
+    uint32_t word;                            /* the new word of an entry */
+    uint32_t at;                              /* the instant of the view that a ready entry keeps */
+    uint32_t turns;                           /* the accepted turns since the call */
+    struct nq_row first[NQ_MOST_DESKS];       /* the first collect: the rows as read */
+    struct nq_row second[NQ_MOST_DESKS];      /* the second collect */
+    uint32_t first_ended;                     /* the event number of the turn that ended the first */
+    struct nq_value kept_view[NQ_MOST_DESKS]; /* the page that a ready entry keeps for its row */
+    uint32_t marks[NQ_MOST_DESKS];            /* whether each desk was seen to write: 0 no, else yes */
 };
 
 /* The tasks of a desk. Those of word, at and turns that a task does not have are ignored. */
@@ -102,7 +111,7 @@ enum nq_answer {
     NQ_OPENED = 1,  /* the day is open */
     NQ_CALLED = 2,  /* the entry or page call is taken */
     NQ_READ = 3,    /* the turn read a row, and the call needs more turns */
-    NQ_PAGE = 4,    /* the turn ended a page: `lender`, `at`, `turns`; its words are in the list */
+    NQ_PAGE = 4,    /* the turn ended a page: `lender`, `at`, `turns`; what it shows is in the list */
     NQ_WRITTEN = 5, /* the turn wrote the desk's row and ended an entry: `turns` */
     NQ_RAN = 6      /* the run was given; the replies to its turns are in its table */
 };
@@ -123,20 +132,21 @@ enum nq_refusal {
                              the call, all turns owed and those that the call would owe are more than
                              65,535. Calls under way can always be ended on the same day, so finish
                              them; if they end sooner than they could, a call may be taken again. A
-                             new day is opened with count and event 0; rows are lost. */
+                             new day is opened with count and event 0; rows are lost, and their last
+                             writings too. */
     NQ_LENT_SIZE = 6,     /* The table has not exactly n records (when opening, as many as asked for),
-                             or the page list of a turn has fewer than n words. */
+                             or the page list of a turn has fewer than 2n words. */
     NQ_CUT_SHORT = 7,     /* The day file ends within a request. */
     NQ_UNKNOWN_KIND = 8,  /* The kind is none of 1 to 4. */
     NQ_WRONG_LENGTH = 9,  /* In a day file, a length outside 4 to 8, or not that of its kind. */
     NQ_OPEN_STATE = 10,   /* A call, a turn or a run on a day that is not open, or an opening of one
                              that is. */
     NQ_CANNOT_ARISE = 11, /* The day cannot have arisen: the desk count is above 8, the event number is
-                             above 65,535, or in a record the row's seq or at is above the event number,
-                             the task is unknown, or it has had more than 2n*n - 1 turns, 2n*n if it is
-                             an entry ready to write; or the event number and all turns owed are more
-                             than 65,535. */
-    NQ_TABLE_SHORT = 13   /* A run is lent fewer replies than it has turns, or fewer than n words of
+                             above 65,535, or in a record the row's last, seq or at is above the event
+                             number, the task is unknown, or it has had more than 2n*n - 1 turns, 2n*n
+                             if it is an entry ready to write; or the event number and all turns owed
+                             are more than 65,535. */
+    NQ_TABLE_SHORT = 13   /* A run is lent fewer replies than it has turns, or fewer than 2n words of
                              pages for each turn. */
 };
 
@@ -160,7 +170,8 @@ struct nq_reply {
  * not have become 0, and marks 0 or 1. A call, and the turn that ends one, also set to 0 all marks,
  * `first_ended`, and as far as they count the collects and `kept_view`. Only a turn looks at a page
  * list, and only one that is answered NQ_PAGE writes it: its first n words become those that stood in
- * rows 1 to n at instant `at`. */
+ * rows 1 to n at instant `at`, and the next n the event numbers of the writings that put them there, 0
+ * for a row that had not been written. No other word of the list changes. */
 
 /* Opens a day for that many desks. The table has that many records. */
 struct nq_reply nq_open(uint32_t count, uint32_t event, struct nq_desk *table, size_t records,
@@ -184,9 +195,9 @@ struct nq_reply nq_step(uint32_t count, uint32_t event, struct nq_desk *table, s
                         uint32_t kind, uint32_t desk, uint32_t word, uint32_t *page, size_t words);
 
 /* A run of turns: one for each desk number in the list `desks`, in order. All is as if each were given
- * by nq_turn, on what the one before left. The reply to turn i, from 0, is put in replies[i], and the
- * words of a page that it answers in pages[n * i] to pages[n * i + n - 1]. After a turn that is refused
- * the next one follows. All other replies and pages stay.
+ * by nq_turn, on what the one before left. The reply to turn i, from 0, is put in replies[i], and if
+ * it is a page, the page's n words and n numbers in pages[2 * n * i] to pages[2 * n * i + 2 * n - 1].
+ * After a turn that is refused the next one follows. All other replies and pages stay.
  *
  * The function's own reply is NQ_RAN with the day after the run, even if every turn was refused or there
  * is none. Only 10, 6 and 13 refuse the run itself, and then nothing is changed. */

@@ -10,10 +10,11 @@
 
 #include "nelvaquist.h"
 
-#define RECORD_WORDS 208
-#define ROOM 10    /* more records and page words than any day has; those that are not lent stay */
-#define NO_WORD 77 /* the word of a request that has none */
-#define LIST 14    /* more turns than any run has; replies and pages that are not lent stay */
+#define RECORD_WORDS 369
+#define ROOM 10         /* more records than any day has; those that are not lent stay */
+#define PAGE (2 * ROOM) /* more page words than any day needs; those that are not lent stay */
+#define NO_WORD 77      /* the word of a request that has none */
+#define LIST 14         /* more turns than any run has; replies and pages that are not lent stay */
 
 #define CHECK(holds) check(holds, #holds, __LINE__)
 
@@ -21,7 +22,7 @@ struct state {
     uint32_t count, event;   /* the day */
     uint32_t records, words; /* how much of the table and of the page list is lent */
     struct nq_desk table[ROOM];
-    uint32_t page[ROOM];
+    uint32_t page[PAGE];
 };
 
 /* What a run is lent beside the day and its table. */
@@ -29,7 +30,7 @@ struct run {
     uint32_t turns, places, words; /* how much of the list and of the two tables is lent */
     uint32_t desks[LIST];
     struct nq_reply replies[LIST];
-    uint32_t pages[LIST * ROOM];
+    uint32_t pages[LIST * PAGE];
 };
 
 static struct state now;    /* what the requests have left */
@@ -78,10 +79,10 @@ static void lend(uint32_t records, uint32_t words, uint32_t rubbish)
     now.words = words;
     for (i = 0; i < RECORD_WORDS; i++)
         record[i] = rubbish;
-    for (i = 0; i < ROOM; i++) {
+    for (i = 0; i < ROOM; i++)
         memcpy(&now.table[i], record, sizeof record);
+    for (i = 0; i < PAGE; i++)
         now.page[i] = rubbish;
-    }
 }
 
 /* A request by its kind. */
@@ -158,9 +159,16 @@ static int leaves(struct nq_reply answer, uint32_t kind, uint32_t desk, uint32_t
 static void put(struct nq_row *place, const struct nq_row *row)
 {
     place->word = row->word;
+    place->last = row->last;
     place->seq = row->seq;
     memcpy(place->view, row->view, wanted.count * sizeof row->view[0]);
     place->at = row->at;
+}
+
+/* Puts a page, its words and then its numbers, in the list that is wanted. */
+static void put_page(const uint32_t *shown)
+{
+    memcpy(wanted.page, shown, 2 * wanted.count * sizeof shown[0]);
 }
 
 /* Whether a turn reads the row that is next and leaves what is wanted. */
@@ -202,7 +210,7 @@ static void make_idle(struct nq_desk *own)
     for (i = 0; i < wanted.count; i++) {
         put(&own->first[i], &none);
         put(&own->second[i], &none);
-        own->kept_view[i] = 0;
+        own->kept_view[i] = (struct nq_value){0, 0};
     }
     memset(own->marks, 0, sizeof own->marks);
 }
@@ -220,7 +228,7 @@ static void lend_run(uint32_t turns, const uint32_t *desks, uint32_t places, uin
         lent.desks[i] = desks[i];
     for (i = 0; i < LIST; i++)
         lent.replies[i] = (struct nq_reply){5, 5, 5, 5, 5, 5, 5};
-    for (i = 0; i < LIST * ROOM; i++)
+    for (i = 0; i < LIST * PAGE; i++)
         lent.pages[i] = 99;
 }
 
@@ -248,7 +256,7 @@ static int runs(void)
 
     for (i = 0; i < lent.turns; i++) {
         left.replies[i] = nq_turn(s.count, s.event, s.table, s.records, lent.desks[i],
-                                  left.pages + i * s.count, s.count);
+                                  left.pages + 2 * s.count * i, 2 * s.count);
         s.event = left.replies[i].event;
     }
     return run_leaves(ran, &s, &left);
@@ -285,11 +293,15 @@ static void places(void)
     struct nq_request request;
     const uint32_t *word = &desk.row.word;
 
-    CHECK(&desk.row.seq == word + 1 && desk.row.view == word + 2 && &desk.row.at == word + 10);
-    CHECK(&desk.task == word + 11 && &desk.word == word + 12 && &desk.at == word + 13);
-    CHECK(&desk.turns == word + 14 && &desk.first[0].word == word + 15);
-    CHECK(&desk.second[0].word == word + 103 && &desk.first_ended == word + 191);
-    CHECK(desk.kept_view == word + 192 && desk.marks == word + 200);
+    CHECK(&desk.row.last == word + 1 && &desk.row.seq == word + 2);
+    CHECK(&desk.row.view[0].word == word + 3 && &desk.row.view[0].last == word + 4);
+    CHECK(&desk.row.view[7].last == word + 18 && &desk.row.at == word + 19);
+    CHECK(&desk.task == word + 20 && &desk.word == word + 21 && &desk.at == word + 22);
+    CHECK(&desk.turns == word + 23 && &desk.first[0].word == word + 24);
+    CHECK(&desk.first[7].word == word + 164 && &desk.second[0].word == word + 184);
+    CHECK(&desk.second[7].at == word + 343 && &desk.first_ended == word + 344);
+    CHECK(&desk.kept_view[0].word == word + 345 && &desk.kept_view[7].last == word + 360);
+    CHECK(desk.marks == word + 361);
     word = &reply.count;
     CHECK(&reply.event == word + 1 && &reply.answer == word + 2 && &reply.refusal == word + 3);
     CHECK(&reply.lender == word + 4 && &reply.at == word + 5 && &reply.turns == word + 6);
@@ -297,19 +309,21 @@ static void places(void)
     CHECK(&request.kind == word + 1 && &request.desk == word + 2);
     CHECK(&request.word == word + 3 && &request.next == word + 4);
     CHECK(sizeof desk == 4 * RECORD_WORDS && sizeof reply == 4 * 7 && sizeof request == 4 * 5);
+    CHECK(sizeof desk.row == 4 * 20 && sizeof desk.row.view[0] == 4 * 2);
 }
 
 /* Opens a day for two desks. Events 1 to 18: desks 1, 2 and 1 again write their rows. */
 static void entries(void)
 {
-    lend(2, 3, 99);
+    lend(2, 5, 99);
     now.event = 70000;
     CHECK(opens(2));
-    wanted.table[0].row = (struct nq_row){.word = 11, .seq = 1, .view = {0, 0}, .at = 3};
+    wanted.table[0].row = (struct nq_row){11, .last = 6, .seq = 1, .view = {{0, 0}}, .at = 3};
     CHECK(enters(1, 11) && same(&now, &wanted));
-    wanted.table[1].row = (struct nq_row){.word = 22, .seq = 1, .view = {11, 0}, .at = 9};
+    wanted.table[1].row = (struct nq_row){22, .last = 12, .seq = 1, .view = {{11, 6}}, .at = 9};
     CHECK(enters(2, 22) && same(&now, &wanted));
-    wanted.table[0].row = (struct nq_row){.word = 13, .seq = 2, .view = {11, 22}, .at = 15};
+    wanted.table[0].row =
+        (struct nq_row){13, .last = 18, .seq = 2, .view = {{11, 6}, {22, 12}}, .at = 15};
     CHECK(enters(1, 13) && same(&now, &wanted));
 }
 
@@ -323,11 +337,11 @@ static void entry_by_turns(void)
     CHECK(leaves(called, NQ_ASK_ENTRY, 2, 24) && reads(2) && reads(2) && reads(2));
     own->task = NQ_READY_ENTRY;
     own->at = 21;
-    own->kept_view[0] = 13;
-    own->kept_view[1] = 22;
+    own->kept_view[0] = (struct nq_value){13, .last = 18};
+    own->kept_view[1] = (struct nq_value){22, .last = 12};
     CHECK(reads(2));
     make_idle(own);
-    own->row = (struct nq_row){.word = 24, .seq = 2, .view = {13, 22}, .at = 21};
+    own->row = (struct nq_row){24, .last = 24, .seq = 2, .view = {{13, 18}, {22, 12}}, .at = 21};
     CHECK(leaves(written(5), NQ_ASK_TURN, 2, NO_WORD));
 }
 
@@ -339,28 +353,91 @@ static void pages(void)
 
     own->task = NQ_READING_PAGE;
     CHECK(leaves(called, NQ_ASK_PAGE, 1, NO_WORD) && reads(1) && reads(1));
-    other->row = (struct nq_row){.word = 26, .seq = 3, .view = {13, 24}, .at = 30};
+    other->row = (struct nq_row){26, .last = 33, .seq = 3, .view = {{13, 18}, {24, 24}}, .at = 30};
     CHECK(enters(2, 26) && reads(1));
     own->marks[1] = 1;
     CHECK(reads(1) && reads(1) && reads(1));
-    other->row = (struct nq_row){.word = 28, .seq = 4, .view = {13, 26}, .at = 40};
+    other->row = (struct nq_row){28, .last = 43, .seq = 4, .view = {{13, 18}, {26, 33}}, .at = 40};
     CHECK(enters(2, 28) && reads(1));
     make_idle(own);
-    wanted.page[0] = 13;
-    wanted.page[1] = 26;
+    put_page((const uint32_t[]){13, 26, 18, 33});
     CHECK(leaves(page(2, 40, 8), NQ_ASK_TURN, 1, NO_WORD));
 
     CHECK(answers(called, NQ_ASK_PAGE, 2, NO_WORD) && reads_on(2, 3));
     wanted.event += 4;
-    wanted.page[1] = 28;
+    put_page((const uint32_t[]){13, 28, 18, 43});
     CHECK(leaves(page(0, 48, 4), NQ_ASK_TURN, 2, NO_WORD));
+}
+
+/* Whether the page list has this page, its words and then its numbers, and its next place is as it was
+ * lent. */
+static int shows(const uint32_t *shown)
+{
+    return memcmp(now.page, shown, 2 * now.count * sizeof shown[0]) == 0 &&
+           now.page[2 * now.count] == 99;
+}
+
+/* Case A of the specification: the page shows 7, which event 4 wrote. */
+static void case_a(void)
+{
+    lend(1, 3, 99);
+    CHECK(opens(1) && enters(1, 7));
+    CHECK(answers(called, NQ_ASK_PAGE, 1, NO_WORD) && reads_on(1, 1));
+    CHECK(answers(page(0, 6, 2), NQ_ASK_TURN, 1, NO_WORD));
+    CHECK(shows((const uint32_t[]){7, 4}));
+    CHECK(refuses(NQ_DESK_IDLE, NQ_ASK_TURN, 1) && now.event == 7);
+}
+
+/* Case B, where row 1 is never written. The borrowed page shows 7 with event 9, which wrote it, though
+ * event 19 has written row 2 since; a page after that shows 9 with event 19. A list that is short by a
+ * word puts the borrowed page off, but does not change it. */
+static void case_b(void)
+{
+    lend(2, 4, 99);
+    CHECK(opens(2) && answers(called, NQ_ASK_PAGE, 1, NO_WORD) && reads_on(1, 2) && enters(2, 7));
+    CHECK(reads_on(1, 4) && enters(2, 9) && reads_on(1, 1));
+    now.words = 3;
+    CHECK(refuses(NQ_LENT_SIZE, NQ_ASK_TURN, 1));
+    now.words = 4;
+    CHECK(answers(page(2, 16, 8), NQ_ASK_TURN, 1, NO_WORD) && now.event == 21);
+    CHECK(shows((const uint32_t[]){0, 7, 0, 9}));
+    CHECK(now.table[1].row.word == 9 && now.table[1].row.last == 19);
+    CHECK(answers(called, NQ_ASK_PAGE, 2, NO_WORD) && reads_on(2, 3));
+    CHECK(answers(page(0, 24, 4), NQ_ASK_TURN, 2, NO_WORD));
+    CHECK(shows((const uint32_t[]){0, 9, 0, 19}));
+}
+
+/* Whether desk 1 has this entry ready to write. */
+static int is_ready(uint32_t word)
+{
+    return answers(called, NQ_ASK_ENTRY, 1, word) && reads_on(1, 4);
+}
+
+/* Desk 1 writes its row when a page of desk 2, and then an entry, has read it for the last time: by
+ * event 16, and by event 27. What desk 2 finds is older. */
+static void written_after_it_was_read(void)
+{
+    const struct nq_desk *other = &now.table[1];
+
+    lend(2, 4, 99);
+    CHECK(opens(2) && enters(1, 11) && is_ready(13));
+    CHECK(answers(called, NQ_ASK_PAGE, 2, NO_WORD) && reads_on(2, 3));
+    CHECK(answers(written(5), NQ_ASK_TURN, 1, NO_WORD) && now.table[0].row.last == 16);
+    CHECK(answers(page(0, 14, 4), NQ_ASK_TURN, 2, NO_WORD));
+    CHECK(shows((const uint32_t[]){11, 0, 6, 0}));
+
+    CHECK(is_ready(15) && answers(called, NQ_ASK_ENTRY, 2, 22) && reads_on(2, 3));
+    CHECK(answers(written(5), NQ_ASK_TURN, 1, NO_WORD) && now.table[0].row.last == 27);
+    CHECK(reads_on(2, 1) && other->task == NQ_READY_ENTRY && other->at == 25);
+    CHECK(other->kept_view[0].word == 13 && other->kept_view[0].last == 16);
+    CHECK(other->kept_view[1].word == 0 && other->kept_view[1].last == 0);
 }
 
 /* A day for two desks on records full of 3s: desk 1 is idle, desk 2 ready to write its row, and owes
  * 9 - 3 turns. */
 static void two_desks(uint32_t event)
 {
-    lend(2, 2, 3);
+    lend(2, 4, 3);
     now.count = 2;
     now.event = event;
     now.table[0].task = NQ_IDLE;
@@ -369,7 +446,7 @@ static void two_desks(uint32_t event)
 }
 
 /* What does not count: task words that a task does not have become 0 and marks 0 or 1, but rows and
- * words past n stay. */
+ * values past n stay. A damaged view is lent as it is. */
 static void what_does_not_count(void)
 {
     struct nq_desk *own = &wanted.table[0];
@@ -384,37 +461,58 @@ static void what_does_not_count(void)
     two_desks(9);
     now.table[0].task = NQ_READING_PAGE;
     now.table[0].turns = 2;
-    now.table[0].row.view[2] = 4;
+    now.table[0].row.view[2] = (struct nq_value){4, .last = 4};
     now.table[1].row.seq = 2;
+    now.table[1].row.view[0] = (struct nq_value){8, .last = 70000};
     wanted = now;
     own->word = own->at = 0;
     for (i = 0; i < NQ_MOST_DESKS; i++)
         own->marks[i] = 1;
     CHECK(reads(1));
     make_idle(own);
+    put_page((const uint32_t[]){8, 3, 70000, 3});
     CHECK(leaves(page(2, 3, 4), NQ_ASK_TURN, 1, NO_WORD));
     make_idle(&wanted.table[1]);
+    wanted.table[1].row.last = 12;
     wanted.table[1].row.seq = 3;
+    wanted.table[1].row.view[0] = (struct nq_value){3, .last = 3};
     CHECK(leaves(written(4), NQ_ASK_TURN, 2, NO_WORD));
 }
 
-/* As many desks as there can be: every row of a collect, word of a view and mark has its place. */
+/* A page whose collects are damaged, but have the same seqs: it shows the second one as it is. */
+static void damaged_collect(void)
+{
+    two_desks(9);
+    now.table[0].task = NQ_READING_PAGE;
+    now.table[0].turns = 3;
+    now.table[0].first[0].last = 70000;
+    now.table[0].second[0].word = 8;
+    now.table[0].second[0].last = 80000;
+    wanted = now;
+    make_idle(&wanted.table[0]);
+    put_page((const uint32_t[]){8, 3, 80000, 3});
+    CHECK(leaves(page(0, 3, 4), NQ_ASK_TURN, 1, NO_WORD));
+}
+
+/* As many desks as there can be: every row of a collect, value of a view and mark has its place. */
 static void most_desks(void)
 {
     const struct nq_desk *own = &now.table[0];
     uint32_t i;
 
-    lend(NQ_MOST_DESKS, NQ_MOST_DESKS, 0);
+    lend(NQ_MOST_DESKS, 2 * NQ_MOST_DESKS, 0);
     CHECK(opens(NQ_MOST_DESKS));
     for (i = 0; i < NQ_MOST_DESKS; i++)
         CHECK(enters(i + 1, 10 + i));
     CHECK(answers(called, NQ_ASK_ENTRY, 1, 10) && reads_on(1, 2 * NQ_MOST_DESKS));
+    for (i = 0; i < NQ_MOST_DESKS; i++) {
+        CHECK(own->first[i].word == 10 + i && own->first[i].last == 18 * (i + 1));
+        CHECK(own->second[i].word == 10 + i && own->second[i].last == 18 * (i + 1));
+        CHECK(own->kept_view[i].word == 10 + i && own->kept_view[i].last == 18 * (i + 1));
+    }
+    CHECK(answers(written(17), NQ_ASK_TURN, 1, NO_WORD) && own->row.last == 162);
     for (i = 0; i < NQ_MOST_DESKS; i++)
-        CHECK(own->first[i].word == 10 + i && own->second[i].word == 10 + i &&
-              own->kept_view[i] == 10 + i);
-    CHECK(answers(written(17), NQ_ASK_TURN, 1, NO_WORD));
-    for (i = 0; i < NQ_MOST_DESKS; i++)
-        CHECK(own->row.view[i] == 10 + i);
+        CHECK(own->row.view[i].word == 10 + i && own->row.view[i].last == 18 * (i + 1));
 
     CHECK(answers(called, NQ_ASK_PAGE, 1, NO_WORD) && reads_on(1, NQ_MOST_DESKS));
     for (i = 1; i < NQ_MOST_DESKS; i++)
@@ -424,14 +522,16 @@ static void most_desks(void)
         CHECK(own->marks[i] == (i > 0));
     CHECK(reads_on(1, 2 * NQ_MOST_DESKS - 1));
     CHECK(answers(page(0, 313, 32), NQ_ASK_TURN, 1, NO_WORD));
-    for (i = 0; i < NQ_MOST_DESKS; i++)
+    for (i = 0; i < NQ_MOST_DESKS; i++) {
         CHECK(now.page[i] == (i > 0 ? 20 : 10) + i);
+        CHECK(now.page[NQ_MOST_DESKS + i] == (i > 0 ? 171 + 18 * i : 162));
+    }
 }
 
 /* A day grows to its last event and no further; then a new one is opened. */
 static void last_event(void)
 {
-    lend(1, 1, 0);
+    lend(1, 2, 0);
     CHECK(opens(1));
     while (answers(called, NQ_ASK_PAGE, 1, NO_WORD))
         CHECK(reads_on(1, 1) && answers(page(0, now.event, 2), NQ_ASK_TURN, 1, NO_WORD));
@@ -458,6 +558,7 @@ static void last_calls(void)
     CHECK(answers(called, NQ_ASK_PAGE, 1, NO_WORD));
     two_desks(NQ_LAST_EVENT - 6);
     CHECK(answers(written(4), NQ_ASK_TURN, 2, NO_WORD));
+    CHECK(now.table[1].row.last == NQ_LAST_EVENT - 5);
     two_desks(NQ_LAST_EVENT - 5);
     CHECK(refuses_all(NQ_CANNOT_ARISE, 1) && refuses_all(NQ_CANNOT_ARISE, 2));
 }
@@ -483,9 +584,8 @@ static void calls_and_turns_refused(void)
     CHECK(refuses_all(NQ_NO_SUCH_DESK, 0) && refuses_all(NQ_NO_SUCH_DESK, 3));
     now.event = NQ_LAST_EVENT + 1;
     CHECK(refuses_all(NQ_CANNOT_ARISE, 0) && refuses_all(NQ_CANNOT_ARISE, 1));
-    now.words = 1;
-    CHECK(refuses(NQ_LENT_SIZE, NQ_ASK_TURN, 2) && refuses(NQ_CANNOT_ARISE, NQ_ASK_PAGE, 2));
-    now.words = 2;
+    for (now.words = 0; now.words < 4; now.words++)
+        CHECK(refuses(NQ_LENT_SIZE, NQ_ASK_TURN, 2) && refuses(NQ_CANNOT_ARISE, NQ_ASK_PAGE, 2));
     now.records = 1;
     CHECK(refuses_all(NQ_LENT_SIZE, 1));
     now.records = 3;
@@ -494,10 +594,12 @@ static void calls_and_turns_refused(void)
     CHECK(refuses_all(NQ_OPEN_STATE, 1));
     CHECK(refuses(NQ_UNKNOWN_KIND, 0, 1) && refuses(NQ_UNKNOWN_KIND, NQ_ASK_TURN + 1, 1));
 
-    lend(NQ_MOST_DESKS + 1, NQ_MOST_DESKS + 1, 3);
+    lend(NQ_MOST_DESKS + 1, 2 * (NQ_MOST_DESKS + 1), 3);
     now.count = NQ_MOST_DESKS + 1;
     now.event = 9;
     CHECK(refuses_all(NQ_CANNOT_ARISE, 1));
+    now.words--;
+    CHECK(refuses(NQ_LENT_SIZE, NQ_ASK_TURN, 1));
 }
 
 /* Whether a word of desk 2's record is refused above this number, but not by an opening, which does
@@ -522,12 +624,34 @@ static void records_refused(void)
 {
     struct nq_desk *other = &now.table[1];
 
+    CHECK(refuses_above(5, &other->row.last, NQ_IDLE));
     CHECK(refuses_above(5, &other->row.seq, NQ_IDLE));
     CHECK(refuses_above(5, &other->row.at, NQ_IDLE));
     CHECK(refuses_above(7, &other->turns, NQ_READING_PAGE));
     CHECK(refuses_above(7, &other->turns, NQ_READING_ENTRY));
     CHECK(refuses_above(8, &other->turns, NQ_READY_ENTRY));
     CHECK(refuses_above(NQ_READY_ENTRY, &other->task, NQ_IDLE));
+}
+
+/* Whether the day goes on though this word of a record is a number above the day's. */
+static int goes_on_with(uint32_t *word)
+{
+    two_desks(5);
+    *word = 70000;
+    return answers(called, NQ_ASK_PAGE, 1, NO_WORD) &&
+           answers(written(4), NQ_ASK_TURN, 2, NO_WORD) && reads_on(1, 3) &&
+           answers(page(0, 9, 4), NQ_ASK_TURN, 1, NO_WORD);
+}
+
+/* The number of a desk's own row is judged, but none in a view or in what the desk has collected. */
+static void numbers_not_judged(void)
+{
+    struct nq_desk *own = &now.table[0], *other = &now.table[1];
+
+    CHECK(goes_on_with(&own->row.view[1].last) && goes_on_with(&other->row.view[0].last));
+    CHECK(goes_on_with(&other->first[0].last) && goes_on_with(&other->first[1].view[1].last));
+    CHECK(goes_on_with(&other->second[1].last) && goes_on_with(&other->second[0].view[0].last));
+    CHECK(goes_on_with(&other->kept_view[1].last) && other->row.view[1].last == 70000);
 }
 
 /* Desk 1 reads a page and desk 2 makes an entry in one run, with turns between that are refused. */
@@ -549,17 +673,17 @@ static void run_of_turns(void)
         {.count = 2, .event = 23, .answer = NQ_REFUSED, .refusal = NQ_NO_SUCH_DESK}};
     struct run left;
 
-    lend(2, 2, 99);
+    lend(2, 4, 99);
     CHECK(opens(2) && enters(1, 11) && enters(2, 22));
-    wanted.table[0].row = (struct nq_row){.word = 11, .seq = 1, .view = {0, 0}, .at = 3};
-    wanted.table[1].row = (struct nq_row){.word = 24, .seq = 2, .view = {11, 22}, .at = 18};
+    wanted.table[0].row = (struct nq_row){11, .last = 6, .seq = 1, .view = {{0, 0}}, .at = 3};
+    wanted.table[1].row =
+        (struct nq_row){24, .last = 23, .seq = 2, .view = {{11, 6}, {22, 12}}, .at = 18};
     CHECK(answers(called, NQ_ASK_PAGE, 1, NO_WORD) && answers(called, NQ_ASK_ENTRY, 2, 24));
     wanted.event = 23;
-    lend_run(12, desks, 13, 25);
+    lend_run(12, desks, 13, 12 * 4 + 1);
     left = lent;
     memcpy(left.replies, replies, sizeof replies);
-    left.pages[7 * 2] = 11;
-    left.pages[7 * 2 + 1] = 22;
+    memcpy(left.pages + 7 * 4, (const uint32_t[]){11, 22, 6, 12}, 4 * sizeof left.pages[0]);
     CHECK(runs() && same(&now, &wanted) && memcmp(&lent, &left, sizeof lent) == 0);
 }
 
@@ -574,18 +698,23 @@ static void lend_three_turns(uint32_t event, uint32_t places, uint32_t words)
  * it in the order have their causes too. */
 static void runs_refused(void)
 {
-    lend_three_turns(9, 3, 6);
+    lend_three_turns(9, 3, 12);
     CHECK(runs() && lent.replies[0].answer == NQ_WRITTEN);
     CHECK(lent.replies[1].refusal == NQ_DESK_IDLE && lent.replies[2].refusal == NQ_NO_SUCH_DESK);
-    lend_three_turns(9, LIST, LIST * ROOM);
+    lend_three_turns(9, LIST, LIST * PAGE);
     CHECK(runs());
-    lend_three_turns(9, 2, 6);
+    lend_three_turns(9, 2, 12);
     CHECK(refuses_run(NQ_TABLE_SHORT));
-    lend_three_turns(9, 3, 5);
+    lend_three_turns(9, 3, 11);
     CHECK(refuses_run(NQ_TABLE_SHORT));
-    lend_three_turns(NQ_LAST_EVENT + 1, 3, 6);
+    lend_three_turns(9, 3, 6);
+    CHECK(refuses_run(NQ_TABLE_SHORT));
+    lend_three_turns(NQ_LAST_EVENT + 1, 3, 12);
     CHECK(refuses_turns(NQ_CANNOT_ARISE));
-    lend_three_turns(NQ_LAST_EVENT + 1, 2, 5);
+    lend_three_turns(9, 3, 12);
+    now.table[0].row.last = 10;
+    CHECK(refuses_turns(NQ_CANNOT_ARISE));
+    lend_three_turns(NQ_LAST_EVENT + 1, 2, 11);
     CHECK(refuses_run(NQ_TABLE_SHORT));
     now.records = 1;
     CHECK(refuses_run(NQ_LENT_SIZE));
@@ -616,9 +745,9 @@ static void run_of_too_many_desks(void)
     lend(NQ_MOST_DESKS + 1, 0, 3);
     now.count = NQ_MOST_DESKS + 1;
     now.event = 9;
-    lend_run(2, (uint32_t[]){1, 0}, 2, 2 * now.count);
+    lend_run(2, (uint32_t[]){1, 0}, 2, 2 * 2 * now.count);
     CHECK(refuses_turns(NQ_CANNOT_ARISE));
-    lend_run(2, (uint32_t[]){1, 0}, 2, 2 * now.count - 1);
+    lend_run(2, (uint32_t[]){1, 0}, 2, 2 * 2 * now.count - 1);
     CHECK(refuses_run(NQ_TABLE_SHORT));
 }
 
@@ -677,13 +806,18 @@ int main(void)
     entries();
     entry_by_turns();
     pages();
+    case_a();
+    case_b();
+    written_after_it_was_read();
     what_does_not_count();
+    damaged_collect();
     most_desks();
     last_event();
     last_calls();
     openings_refused();
     calls_and_turns_refused();
     records_refused();
+    numbers_not_judged();
     run_of_turns();
     runs_refused();
     empty_run();

@@ -13,6 +13,7 @@ fn main() -> Result<(), Refusal> {
     loop {
         if let Answer::Page(page) = register.turn(2)? {
             println!("{:?} after event {}", page.words(), page.at()); // [7, 0] after event 9
+            println!("last written {:?}", page.last()); // last written [6, 0]: row 2 never
             return Ok(());
         }
     }

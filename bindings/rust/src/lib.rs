@@ -1,8 +1,8 @@
 //! A register for up to eight desks. Each desk owns one row, which holds a word of 32 bits, and
 //! nobody locks anything: a desk writes its row by an *entry* and reads all rows together by a
 //! *page*, one row a *turn*. A page shows what stood in the rows at one instant, however the turns
-//! of other desks fall between its own. The method is that of Afek and others, "Atomic Snapshots of
-//! Shared Memory", Figure 3.
+//! of other desks fall between its own, and when each row was last written. The method is that of
+//! Afek and others, "Atomic Snapshots of Shared Memory", Figure 3.
 //!
 //! ```
 //! use nelvaquist::{Answer, Register};
@@ -22,6 +22,7 @@
 //!     }
 //! };
 //! assert_eq!(page.words(), [7, 0]);
+//! assert_eq!(page.last(), [6, 0]); // row 1 was last written by event 6, row 2 never
 //! assert_eq!(page.lender(), None);
 //!
 //! // A turn without a call is refused, and changes nothing.
@@ -46,12 +47,13 @@
 //! on the same day, whatever turns they come to need; else it is refused with
 //! [`DayFull`](Refusal::DayFull), as a turn never is. Finish what is under way then. It may end
 //! sooner than it could, so that a call is taken again. In the end go on with a new [`Register`]:
-//! rows are lost, but what stood in them can be entered again.
+//! rows are lost, but what stood in them can be entered again. Their last writings are then those of
+//! the new day.
 //!
 //! ```
 //! # use nelvaquist::{Answer, Record, Refusal, Register, Task};
 //! # let mut words = [0; Record::WORDS];
-//! # words[0] = 7;
+//! # (words[0], words[1], words[2]) = (7, 5, 1);
 //! # let records = vec![Record::from_words(words), Record::default()];
 //! # let mut register = Register::from_parts(2, 65_526, records);
 //! # register.page(2)?;
@@ -66,10 +68,14 @@
 //! let mut next = Register::new();
 //! next.open(register.desks())?;
 //! for (desk, record) in (1..).zip(register.records()) {
-//!     next.entry(desk, record.word())?;
-//!     while next.turn(desk)? == Answer::Read {}
+//!     // A row that was never written stays so.
+//!     if record.last() != 0 {
+//!         next.entry(desk, record.word())?;
+//!         while next.turn(desk)? == Answer::Read {}
+//!     }
 //! }
 //! # assert_eq!([7, 0], [next.records()[0].word(), next.records()[1].word()]);
+//! # assert_eq!([6, 0], [next.records()[0].last(), next.records()[1].last()]);
 //! # assert_eq!(register.entry(1, 8), Err(Refusal::DayFull));
 //! # Ok::<(), Refusal>(())
 //! ```
@@ -81,6 +87,9 @@
 //! [`Register::from_parts`] takes up. Words that were damaged are refused or worked on by the
 //! rules, but never make the register touch anything else. Pages are true on a day that grew from
 //! an opening and was kept as it was left.
+//!
+//! Records are kept for one version of the library. Those of versions 1 and 2, which are shorter,
+//! cannot be taken up: a day that was begun with one of these is ended with it.
 //!
 //! # The library
 //!

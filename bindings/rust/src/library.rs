@@ -6,7 +6,7 @@
 use crate::{other_version, Record};
 
 /// The version of the library that everything here is written for.
-const VERSION: u32 = 2;
+const VERSION: u32 = 3;
 
 /// What a request was answered, and the day after it.
 #[derive(Clone, Default)]
@@ -81,7 +81,7 @@ pub(crate) fn step(
 ) -> Reply {
     see_version();
     // SAFETY: the library is of this version, where the declarations above are its own and `Record`
-    // is laid out as its array of 208 words. Both slices are initialised, aligned and not null,
+    // is laid out as its array of 369 words. Both slices are initialised, aligned and not null,
     // even if empty, hold as many elements as is said, and, being borrowed mutably, neither overlap
     // nor are used by anybody else meanwhile. The library touches nothing outside of them and keeps
     // no pointer, and any words that it leaves are valid.
@@ -100,8 +100,8 @@ pub(crate) fn step(
     }
 }
 
-/// A run of turns for the desks of a list. The replies and the pages, as many words each as there are
-/// desks, are put in the last two slices.
+/// A run of turns for the desks of a list. The replies and the pages, two words for each desk a page,
+/// are put in the last two slices.
 pub(crate) fn run(
     (desks, event): (u32, u32),
     table: &mut [Record],

@@ -7,21 +7,25 @@ use std::fmt;
 /// | Words | What they are |
 /// |---|---|
 /// | 0 | the word of the desk's row |
-/// | 1 | its seq: how often the row has been written |
-/// | 2 to 9 | its view: the page that the desk found before it last wrote |
-/// | 10 | its at: the instant of that page |
-/// | 11 | the kind of the [task](Task): 0 idle, 1 page, 2 entry, 3 ready |
-/// | 12 | the new word of an entry |
-/// | 13 | the instant of the view that a ready entry keeps |
-/// | 14 | the accepted turns since the call |
-/// | 15 to 102 | the first collect: eight rows as read, each as words 0 to 10 are one |
-/// | 103 to 190 | the second collect, likewise |
-/// | 191 | the event number of the turn that ended the first collect |
-/// | 192 to 199 | the kept view: the page that a ready entry keeps for its row |
-/// | 200 to 207 | the marks: of each desk, whether it was seen to write, 0 for no |
+/// | 1 | its last: the event number of the row's last writing, 0 if none |
+/// | 2 | its seq: how often the row has been written |
+/// | 3 to 18 | its view: the page that the desk found before it last wrote, a word and a last a row |
+/// | 19 | its at: the instant of that page |
+/// | 20 | the kind of the [task](Task): 0 idle, 1 page, 2 entry, 3 ready |
+/// | 21 | the new word of an entry |
+/// | 22 | the instant of the view that a ready entry keeps |
+/// | 23 | the accepted turns since the call |
+/// | 24 to 183 | the first collect: eight rows as read, each as words 0 to 19 are one |
+/// | 184 to 343 | the second collect, likewise |
+/// | 344 | the event number of the turn that ended the first collect |
+/// | 345 to 360 | the kept view: the page that a ready entry keeps for its row, as words 3 to 18 |
+/// | 361 to 368 | the marks: of each desk, whether it was seen to write, 0 for no |
 ///
-/// On a day for n desks the first n words of a view and the first n rows of a collect count. What a
-/// task does not have is ignored.
+/// On a day for n desks the first n rows of a view and of a collect count. What a task does not have
+/// is ignored.
+///
+/// This is the layout of version 3 of the library. Records of versions 1 and 2, which have 208 words,
+/// cannot be taken up.
 ///
 /// ```
 /// use nelvaquist::{Record, Register};
@@ -41,7 +45,7 @@ pub struct Record([u32; Record::WORDS]);
 
 impl Record {
     /// How many words a record has. Later versions may have more or fewer.
-    pub const WORDS: usize = 208;
+    pub const WORDS: usize = 369;
 
     /// The record that these words are.
     #[must_use]
@@ -67,17 +71,23 @@ impl Record {
         self.0[0]
     }
 
+    /// The event number of the last writing of the desk's row, 0 if there was none.
+    #[must_use]
+    pub const fn last(&self) -> u32 {
+        self.0[1]
+    }
+
     /// How often the desk's row has been written.
     #[must_use]
     pub const fn seq(&self) -> u32 {
-        self.0[1]
+        self.0[2]
     }
 
     /// The desk's task.
     #[must_use]
     pub const fn task(&self) -> Task {
-        let (word, at, turns) = (self.0[12], self.0[13], self.0[14]);
-        match self.0[11] {
+        let (word, at, turns) = (self.0[21], self.0[22], self.0[23]);
+        match self.0[20] {
             0 => Task::Idle,
             1 => Task::Page { turns },
             2 => Task::Entry { word, turns },
@@ -100,11 +110,12 @@ impl From<[u32; Record::WORDS]> for Record {
     }
 }
 
-/// The row's word and seq and the task; all 208 words would say less.
+/// The row's word, last and seq and the task; all 369 words would say less.
 impl fmt::Debug for Record {
     fn fmt(&self, f: &mut fmt::Formatter<'_>) -> fmt::Result {
         f.debug_struct("Record")
             .field("word", &self.word())
+            .field("last", &self.last())
             .field("seq", &self.seq())
             .field("task", &self.task())
             .finish_non_exhaustive()

@@ -23,7 +23,7 @@ pub enum Refusal {
     /// turn is refused so.
     DayFull = 5,
     /// 6: there is not exactly one record for each desk of the day, or the page list of a turn has
-    /// fewer words than the day has desks.
+    /// fewer than two words for each desk.
     LentSize = 6,
     /// 7: the day file ends within a record.
     CutShort = 7,

@@ -41,8 +41,12 @@ pub struct Register {
 }
 
 impl Register {
-    /// The most desks that a day can have. A page list of so many words is long enough for any.
+    /// The most desks that a day can have.
     pub const MOST_DESKS: usize = 8;
+
+    /// The most words that a page list needs, two for each desk: a list of so many is long enough for
+    /// any day.
+    pub const MOST_PAGE_WORDS: usize = 2 * Register::MOST_DESKS;
 
     /// A blank day, to be opened.
     ///
@@ -165,8 +169,8 @@ impl Register {
         let turn = Request::Turn { desk };
         match self.page_words() {
             // A day that was taken up with more desks than any has is not refused for its page list.
-            n if n > Register::MOST_DESKS => self.step(turn, &mut vec![0; n]),
-            _ => self.step(turn, &mut [0; Register::MOST_DESKS]),
+            words if words > Register::MOST_PAGE_WORDS => self.step(turn, &mut vec![0; words]),
+            _ => self.step(turn, &mut [0; Register::MOST_PAGE_WORDS]),
         }
     }
 
@@ -193,27 +197,30 @@ impl Register {
     /// if the day is not open, then with [`LentSize`](Refusal::LentSize) if it was taken up without
     /// exactly one record for each desk. Whatever else is wrong is answered to each turn.
     pub fn run(&mut self, desks: &[u32]) -> Result<Vec<Result<Answer, Refusal>>, Refusal> {
-        let n = self.page_words();
-        let mut pages = vec![0; n * desks.len()];
+        let words = self.page_words();
+        let mut pages = vec![0; words * desks.len()];
         let replies = self.replies(desks, desks.len(), &mut pages)?;
-        Ok((0..).zip(&replies).map(|(i, own)| answer(own, &pages[n * i..])).collect())
+        Ok((0..).zip(&replies).map(|(i, own)| answer(own, &pages[words * i..])).collect())
     }
 
     /// A run of turns with two lent tables: what each turn was answered is put in the first, in
-    /// order, and the words of a page that it answered in the second, which has as many words for
-    /// each turn as the day has desks. No other place of either changes, also where they are longer.
+    /// order, and a page that it answered in the second, which has two words for each desk of the day
+    /// and each turn. There a page is its [words](Page::words) and then, for each row, the number of
+    /// its [last writing](Page::last). No other place of either changes, also where they are longer.
     ///
     /// ```
     /// use nelvaquist::{Answer, Refusal, Register};
     ///
     /// let mut register = Register::new();
     /// register.open(2)?;
+    /// register.entry(2, 7)?;
+    /// register.run(&[2, 2, 2, 2, 2])?; // row 2 is written by event 6
     /// register.page(1)?;
     /// let mut answers = [Ok(Answer::Read); 4];
-    /// let mut pages = [9; 4 * 2];
+    /// let mut pages = [9; 4 * 4];
     /// register.run_into(&[1, 1, 1, 1], &mut answers, &mut pages)?;
     /// assert!(matches!(answers[3], Ok(Answer::Page(_))));
-    /// assert_eq!(pages, [9, 9, 9, 9, 9, 9, 0, 0]);
+    /// assert_eq!(pages, [9, 9, 9, 9, 9, 9, 9, 9, 9, 9, 9, 9, 0, 7, 0, 6]);
     /// # Ok::<(), Refusal>(())
     /// ```
     ///
@@ -228,18 +235,18 @@ impl Register {
         answers: &mut [Result<Answer, Refusal>],
         pages: &mut [u32],
     ) -> Result<(), Refusal> {
-        let n = self.desks as usize;
+        let words = self.page_words();
         let replies = self.replies(desks, answers.len(), pages)?;
         for (i, (place, own)) in answers.iter_mut().zip(&replies).enumerate() {
-            *place = answer(own, &pages[n * i..]);
+            *place = answer(own, &pages[words * i..]);
         }
         Ok(())
     }
 
-    /// The words of a page, for a day with a record for each desk; any other is refused before it is
-    /// lent any.
+    /// How many words a page takes, for a day with a record for each desk; any other is refused before
+    /// it is lent any.
     fn page_words(&self) -> usize {
-        self.records.len().min(self.desks as usize)
+        2 * self.records.len().min(self.desks as usize)
     }
 
     /// Gives a run of turns, for whose answers there are so many places. It answers the reply to each.
@@ -263,7 +270,8 @@ impl Register {
     }
 
     /// A request of any kind, with a page list. Only a turn looks at the page list: if it answers a
-    /// page, the list's first words become the page's. No other word of the list changes.
+    /// page, the list's first words become the page's, one for each desk, and the next ones, as many,
+    /// the numbers of the rows' [last writings](Page::last). No other word of the list changes.
     ///
     /// ```
     /// use nelvaquist::{DayFile, Register};
@@ -272,7 +280,7 @@ impl Register {
     /// let bytes = [4, 0, 1, 0, 2, 0, 4, 0, 3, 0, 1, 0];
     ///
     /// let mut register = Register::new();
-    /// let mut page = [0; Register::MOST_DESKS];
+    /// let mut page = [0; Register::MOST_PAGE_WORDS];
     /// for request in DayFile::new(&bytes) {
     ///     register.step(request?, &mut page)?;
     /// }
@@ -284,7 +292,7 @@ impl Register {
     ///
     /// Refused as [`open`](Self::open), [`entry`](Self::entry), [`page`](Self::page) and
     /// [`turn`](Self::turn) are; a turn also with [`LentSize`](Refusal::LentSize) if the list has
-    /// fewer words than the day has desks.
+    /// fewer than two words for each desk of the day.
     pub fn step(&mut self, request: Request, page: &mut [u32]) -> Result<Answer, Refusal> {
         let day = (self.desks, self.event);
         let reply = match request {
@@ -319,7 +327,7 @@ fn refusal(reply: &Reply) -> Refusal {
     }
 }
 
-/// What a reply says. The words of a page are the first of the page list.
+/// What a reply says. What a page shows is at the start of the page list.
 fn answer(reply: &Reply, page: &[u32]) -> Result<Answer, Refusal> {
     match reply.answer {
         0 => Err(refusal(reply)),

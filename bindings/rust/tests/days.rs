@@ -1,6 +1,6 @@
 //! Days of the specification: A and B call by call, and every sample as the day runner prints it.
 
-use nelvaquist::{Answer, DayFile, Refusal, Register, Request};
+use nelvaquist::{Answer, DayFile, Refusal, Register, Request, Task};
 use std::fmt::Write;
 use std::fs;
 use std::path::Path;
@@ -19,8 +19,9 @@ fn case_a() {
     assert_eq!(register.page(1), Ok(()));
     assert_eq!(register.turn(1), Ok(Answer::Read));
     let Ok(Answer::Page(page)) = register.turn(1) else { panic!("no page") };
-    assert_eq!(page.words(), [7]);
+    assert_eq!((page.words(), page.last()), (&[7][..], &[4][..]));
     assert_eq!((page.lender(), page.at(), page.turns()), (None, 6, 2));
+    assert_eq!(register.records()[0].last(), 4);
     assert_eq!(register.turn(1), Err(Refusal::DeskIdle));
     assert_eq!((register.desks(), register.event()), (1, 7));
 }
@@ -42,7 +43,40 @@ fn case_b() {
     assert_eq!((page.lender(), page.at(), page.turns()), (Some(2), 16, 8));
     assert_eq!(register.event(), 21);
     assert_eq!(register.records()[1].word(), 9);
-    assert_eq!(format!("{page:?}"), "Page { words: [0, 7], lender: Some(2), at: 16, turns: 8 }");
+    // Row 1 was never written; event 9 wrote the 7, which stood until event 19.
+    assert_eq!(page.last(), [0, 9]);
+    assert_eq!(register.records()[1].last(), 19);
+    assert_eq!(
+        format!("{page:?}"),
+        "Page { words: [0, 7], last: [0, 9], lender: Some(2), at: 16, turns: 8 }"
+    );
+}
+
+#[test]
+fn rows_written_after_they_were_read() {
+    let mut register = Register::new();
+    register.open(2).unwrap();
+    register.entry(1, 11).unwrap();
+    assert_eq!(turns(&mut register, 1, 5)[4], Answer::Written { turns: 5 });
+    // Events 7 to 17: desk 1 writes row 1 by event 16, when the page has read it for the last time.
+    register.entry(1, 13).unwrap();
+    assert_eq!(turns(&mut register, 1, 4), [Answer::Read; 4]);
+    register.page(2).unwrap();
+    assert_eq!(turns(&mut register, 2, 3), [Answer::Read; 3]);
+    assert_eq!(register.turn(1), Ok(Answer::Written { turns: 5 }));
+    let Ok(Answer::Page(page)) = register.turn(2) else { panic!("no page") };
+    assert_eq!((page.words(), page.last()), (&[11, 0][..], &[6, 0][..]));
+    assert_eq!((page.lender(), page.at(), register.records()[0].last()), (None, 14, 16));
+    // Events 18 to 28: and by event 27, when an entry has read it. It keeps the page that it found.
+    register.entry(1, 15).unwrap();
+    assert_eq!(turns(&mut register, 1, 4), [Answer::Read; 4]);
+    register.entry(2, 22).unwrap();
+    assert_eq!(turns(&mut register, 2, 3), [Answer::Read; 3]);
+    assert_eq!(register.turn(1), Ok(Answer::Written { turns: 5 }));
+    assert_eq!(register.turn(2), Ok(Answer::Read));
+    assert_eq!(register.records()[1].words()[345..349], [13, 16, 0, 0]);
+    assert_eq!(register.task(2), Some(Task::Ready { word: 22, at: 25, turns: 4 }));
+    assert_eq!(register.records()[0].last(), 27);
 }
 
 /// The day runner's line for a request and its outcome.
@@ -65,6 +99,10 @@ fn line(register: &Register, request: Request, outcome: Result<Answer, Refusal>)
             for word in page.words() {
                 write!(line, " {word}").unwrap();
             }
+            line += " last";
+            for event in page.last() {
+                write!(line, " {event}").unwrap();
+            }
             line
         }
         other => panic!("{other:?}"),
@@ -73,7 +111,7 @@ fn line(register: &Register, request: Request, outcome: Result<Answer, Refusal>)
 
 fn printed(file: &[u8]) -> String {
     let mut register = Register::new();
-    let mut page = [0; Register::MOST_DESKS];
+    let mut page = [0; Register::MOST_PAGE_WORDS];
     let mut printed = String::new();
     for record in DayFile::new(file) {
         let line = match record {
@@ -115,10 +153,17 @@ fn waiting_ends_in_time() {
         }
         // Every desk in turn, so that they disturb one another as they can.
         let mut waiting: Vec<u32> = (1..=n).collect();
+        let mut last = vec![0; n as usize];
         let mut given = 0;
         while !waiting.is_empty() {
             given += 1;
-            waiting.retain(|&desk| register.turn(desk).unwrap() == Answer::Read);
+            waiting.retain(|&desk| {
+                let reads = register.turn(desk).unwrap() == Answer::Read;
+                if !reads {
+                    last[desk as usize - 1] = register.event();
+                }
+                reads
+            });
         }
         assert!(given <= 2 * n * n + 1, "{given} turns for {n} desks");
         register.page(n).unwrap();
@@ -129,6 +174,7 @@ fn waiting_ends_in_time() {
         };
         let wanted: Vec<u32> = (1..=n).map(|desk| 100 + desk).collect();
         assert_eq!(page.words(), wanted);
+        assert_eq!(page.last(), last);
         assert_eq!(page.turns(), 2 * n);
     }
 }

@@ -34,30 +34,63 @@ fn laid_out_as_the_manual_says() {
     let file = include_bytes!("../../../samples/b.day");
     let mut register = Register::new();
     for request in DayFile::new(file).take(1 + 18) {
-        register.step(request.unwrap(), &mut [0; 8]).unwrap();
+        register.step(request.unwrap(), &mut [0; 16]).unwrap();
     }
-    let row_2: &[u32] = &[7, 1, 0, 0, 0, 0, 0, 0, 0, 0, 6];
+    // Written by event 9, after a page of nothing.
+    let row_2: &[u32] = &[7, 9, 1, 0, 0, 0, 0, 0, 0, 0, 0, 0, 0, 0, 0, 0, 0, 0, 0, 6];
     let desk_1 = record(&[
-        (11, &[1, 0, 0, 6]),
-        (15 + 11, row_2),
-        (103 + 11, row_2),
-        (191, &[13]),
-        (200, &[0, 1]),
+        (20, &[1, 0, 0, 6]),
+        (24 + 20, row_2),
+        (184 + 20, row_2),
+        (344, &[13]),
+        (361, &[0, 1]),
     ]);
     let desk_2 = record(&[
         (0, row_2),
-        (11, &[3, 9, 16, 4]),
-        (15 + 11, row_2),
-        (103 + 11, row_2),
-        (191, &[16]),
-        (192, &[0, 7]),
+        (20, &[3, 9, 16, 4]),
+        (24 + 20, row_2),
+        (184 + 20, row_2),
+        (344, &[16]),
+        (345, &[0, 0, 7, 9]),
     ]);
     assert_eq!(register.records(), [desk_1, desk_2]);
+
+    // Event 19 writes row 2: 9, with a page of its 7.
+    register.turn(2).unwrap();
+    let desk_2 = record(&[(0, &[9, 19, 2, 0, 0, 7, 9]), (19, &[16])]);
+    assert_eq!(register.records()[1], desk_2);
+    assert_eq!((Record::WORDS, std::mem::size_of::<Record>()), (369, 4 * 369));
+}
+
+#[test]
+fn eight_rows_in_their_places() {
+    let mut register = Register::new();
+    register.open(8).unwrap();
+    for desk in 1..=8 {
+        register.entry(desk, 10 * desk).unwrap();
+        while register.turn(desk).unwrap() == Answer::Read {}
+    }
+    // Row d was written by event 18d. Desk 1 is now ready to write it again.
+    register.entry(1, 7).unwrap();
+    for _ in 0..16 {
+        register.turn(1).unwrap();
+    }
+    let words = register.records()[0].words();
+    for (row, desk) in (0..).zip(1..=8) {
+        let value = [10 * desk, 18 * desk];
+        assert_eq!(words[24 + 20 * row..][..2], value);
+        assert_eq!(words[184 + 20 * row..][..2], value);
+        assert_eq!(words[345 + 2 * row..][..2], value);
+    }
+    let kept = words[345..361].to_vec();
+    assert_eq!(register.turn(1), Ok(Answer::Written { turns: 17 }));
+    let words = register.records()[0].words();
+    assert_eq!((words[..3].to_vec(), words[3..19].to_vec()), (vec![7, 162, 2], kept));
 }
 
 /// A task by the numbers of a record: its kind, its word, its instant and its turns.
 fn task(numbers: [u32; 4]) -> Task {
-    record(&[(11, &numbers)]).task()
+    record(&[(20, &numbers)]).task()
 }
 
 #[test]
@@ -90,9 +123,11 @@ fn tasks_of_a_day() {
     register.turn(1).unwrap();
     assert_eq!(register.task(1), Some(Task::Ready { word: 7, at: 5, turns: 2 }));
     assert_eq!((register.records()[0].word(), register.records()[0].seq()), (0, 0));
+    assert_eq!(register.records()[0].last(), 0);
     register.turn(1).unwrap();
     assert_eq!(register.task(1), Some(Task::Idle));
     assert_eq!((register.records()[0].word(), register.records()[0].seq()), (7, 1));
+    assert_eq!(register.records()[0].last(), 7);
     for desk in [0, 2, u32::MAX] {
         assert_eq!(register.task(desk), None);
     }
@@ -112,8 +147,9 @@ fn desks_of_a_damaged_day() {
 
 #[test]
 fn shown_in_short() {
-    let shown = record(&[(0, &[7, 1, 5]), (11, &[3, 8, 9, 4]), (200, &[1])]);
-    let wanted = "Record { word: 7, seq: 1, task: Ready { word: 8, at: 9, turns: 4 }, .. }";
+    let shown = record(&[(0, &[7, 6, 1, 5]), (20, &[3, 8, 9, 4]), (361, &[1])]);
+    let wanted =
+        "Record { word: 7, last: 6, seq: 1, task: Ready { word: 8, at: 9, turns: 4 }, .. }";
     assert_eq!(format!("{shown:?}"), wanted);
     let register = Register::from_parts(1, 9, vec![shown]);
     let wanted = format!("Register {{ desks: 1, event: 9, records: [{wanted}] }}");
@@ -127,7 +163,7 @@ fn parts() {
     let record = Record::from(words);
     assert_eq!(record, Record::from_words(words));
     assert_eq!((record.words(), record.clone().into_words()), (&words, words));
-    assert_eq!((record.word(), record.seq()), (0, 1));
+    assert_eq!((record.word(), record.last(), record.seq()), (0, 1, 2));
     let register = Register::from_parts(3, 70_000, vec![record.clone()]);
     assert_eq!(register.into_parts(), (3, 70_000, vec![record]));
 }
@@ -163,11 +199,29 @@ fn a_day_that_is_shared() {
 #[test]
 fn marks_and_words_without_a_meaning() {
     // A page has no word of its own and no instant, and any number is a mark.
-    let before = record(&[(0, &[3]), (11, &[1, 8, 9, 1]), (200, &[7, 0, u32::MAX])]);
+    let before = record(&[(0, &[3]), (20, &[1, 8, 9, 1]), (361, &[7, 0, u32::MAX])]);
     let mut register = Register::from_parts(3, 5, vec![before, record(&[]), record(&[])]);
     assert_eq!(register.turn(1), Ok(Answer::Read));
-    let after = record(&[(0, &[3]), (11, &[1, 0, 0, 2]), (200, &[1, 0, 1])]);
+    let after = record(&[(0, &[3]), (20, &[1, 0, 0, 2]), (361, &[1, 0, 1])]);
     assert_eq!(register.records(), [after, record(&[]), record(&[])]);
+}
+
+#[test]
+fn a_damaged_collect_and_a_damaged_view() {
+    // The last turn of a double collect of two desks, whose numbers no event has.
+    let first: &[u32] = &[5, 70_000, 1];
+    let second: &[u32] = &[6, 80_000, 1];
+    let reading = record(&[(20, &[1, 0, 0, 3]), (24, first), (184, second)]);
+    let mut register = Register::from_parts(2, 5, vec![reading, record(&[])]);
+    let Ok(Answer::Page(page)) = register.turn(1) else { panic!("no page") };
+    assert_eq!((page.lender(), page.words(), page.last()), (None, &[6, 0][..], &[80_000, 0][..]));
+    // Desk 2 was seen to write before, and lends its view as it is.
+    let reading = record(&[(20, &[1, 0, 0, 3]), (361, &[0, 1])]);
+    let lender = record(&[(0, &[9, 5, 1, 7, 70_000, 8, 80_000]), (19, &[4])]);
+    let mut register = Register::from_parts(2, 5, vec![reading, lender]);
+    let Ok(Answer::Page(page)) = register.turn(1) else { panic!("no page") };
+    assert_eq!((page.words(), page.last()), (&[7, 8][..], &[70_000, 80_000][..]));
+    assert_eq!((page.lender(), page.at()), (Some(2), 4));
 }
 
 /// Keeps a register as bytes and takes it up from them.
@@ -191,7 +245,7 @@ fn kept_at_every_event() {
     let file = include_bytes!("../../../samples/d.day");
     let (mut register, mut kept) = (Register::new(), Register::new());
     for request in DayFile::new(file) {
-        let (request, mut page, mut kept_page) = (request.unwrap(), [0; 8], [0; 8]);
+        let (request, mut page, mut kept_page) = (request.unwrap(), [0; 16], [0; 16]);
         let answer = register.step(request, &mut page);
         assert_eq!(kept.step(request, &mut kept_page), answer);
         assert_eq!((&kept, kept_page), (&register, page));
@@ -230,17 +284,18 @@ fn damaged(random: &mut Random, desks: u32, event: u32, fits: bool) -> Record {
     words.fill_with(|| word(random));
     if fits {
         words[1] = random.below(event + 1);
-        words[10] = random.below(event + 1);
-        words[11] = random.below(4);
-        words[14] = random.below(2 * desks * desks);
+        words[2] = random.below(event + 1);
+        words[19] = random.below(event + 1);
+        words[20] = random.below(4);
+        words[23] = random.below(2 * desks * desks);
         if random.below(2) == 0 {
             // The next turn ends a double collect.
-            words[14] = 2 * desks * (1 + random.below(desks)) - 1;
+            words[23] = 2 * desks * (1 + random.below(desks)) - 1;
         }
         if random.below(2) == 0 {
             // Nobody is seen to have written.
-            for place in 15..103 {
-                words[place + 88] = words[place];
+            for place in 24..184 {
+                words[place + 160] = words[place];
             }
         }
     }
@@ -271,7 +326,7 @@ fn damaged_words() {
                 2 => Request::Page { desk },
                 _ => Request::Turn { desk },
             };
-            let words = if random.below(10) == 0 { random.below(12) } else { 8 };
+            let words = if random.below(10) == 0 { random.below(24) } else { 16 };
             let mut page = vec![5; words as usize];
             let before = register.clone();
             let outcome = register.step(request, &mut page);
@@ -302,8 +357,10 @@ fn looked_at(
     };
     let unwritten = match answer {
         Answer::Page(shown) => {
-            assert_eq!(shown.words(), &page[..after.desks() as usize]);
-            &page[after.desks() as usize..]
+            let (words, rest) = page.split_at(after.desks() as usize);
+            let (last, rest) = rest.split_at(after.desks() as usize);
+            assert_eq!((shown.words(), shown.last()), (words, last));
+            rest
         }
         _ => page,
     };

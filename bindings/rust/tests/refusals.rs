@@ -84,29 +84,34 @@ fn page_lists() {
         let n = desks as usize;
         let mut register = opened(desks);
         register.page(1).unwrap();
-        for words in 0..n {
+        for words in 0..2 * n {
             let mut short = vec![5; words];
             assert_eq!(refused(&mut register, Request::Turn { desk: 1 }, &mut short), 6);
         }
-        let mut list = [5; 10];
+        let mut list = [5; 20];
         for _ in 1..2 * n {
-            let answer = register.step(Request::Turn { desk: 1 }, &mut list[..n]);
+            let answer = register.step(Request::Turn { desk: 1 }, &mut list[..2 * n]);
             assert_eq!(answer, Ok(Answer::Read));
-            assert_eq!(list, [5; 10]);
+            assert_eq!(list, [5; 20]);
         }
+        // The turn that ends the page needs as long a list as the others.
+        assert_eq!(refused(&mut register, Request::Turn { desk: 1 }, &mut list[..2 * n - 1]), 6);
         let Ok(Answer::Page(page)) = register.step(Request::Turn { desk: 1 }, &mut list) else {
             panic!("no page")
         };
         assert_eq!(page.words(), &list[..n]);
         assert_eq!(page.words(), vec![0; n]);
-        assert_eq!(list[n..], [5; 10][n..]);
+        assert_eq!(page.last(), &list[n..2 * n]);
+        assert_eq!(page.last(), vec![0; n]);
+        assert_eq!(list[2 * n..], [5; 20][2 * n..]);
     }
+    assert_eq!(Register::MOST_PAGE_WORDS, 16);
 }
 
 /// A day for two desks, of which the first has had some turns of a page, which can need 8.
 fn reading(event: u32, turns: u32) -> Register {
     let mut words = [0; Record::WORDS];
-    (words[11], words[14]) = (1, turns);
+    (words[20], words[23]) = (1, turns);
     Register::from_parts(2, event, vec![Record::from_words(words), Record::default()])
 }
 
@@ -131,7 +136,7 @@ fn full_days() {
         let mut past = reading(65_536 - owed, turns);
         for desk in [1, 2] {
             assert_eq!(refused(&mut past, Request::Page { desk }, &mut []), 11);
-            assert_eq!(refused(&mut past, Request::Turn { desk }, &mut [5; 8]), 11);
+            assert_eq!(refused(&mut past, Request::Turn { desk }, &mut [5; 16]), 11);
         }
     }
 }
@@ -152,31 +157,59 @@ fn the_last_event() {
     assert_eq!(past.turn(1), Err(Refusal::CannotArise));
 }
 
+/// A day for two desks at event 5, idle and blank but for a word of the second's record.
+fn with_word(place: usize, word: u32) -> Register {
+    let mut words = [0; Record::WORDS];
+    words[place] = word;
+    Register::from_parts(2, 5, vec![Record::default(), Record::from_words(words)])
+}
+
+#[test]
+fn numbers_that_are_not_judged() {
+    // The last writings in the row's view, in a collected row and its view, and in the kept view.
+    for place in [4, 6, 18, 25, 28, 45, 185, 188, 346, 348] {
+        let mut register = with_word(place, 70_000);
+        assert_eq!(register.entry(2, 7), Ok(()), "{place}");
+        while register.turn(2).unwrap() == Answer::Read {}
+        assert_eq!((register.records()[1].word(), register.records()[1].last()), (7, 11));
+    }
+    // A ready entry writes the view that it keeps, whatever its numbers, and the day goes on.
+    let mut words = [0; Record::WORDS];
+    (words[20], words[346]) = (3, 70_000);
+    let records = vec![Record::default(), Record::from_words(words)];
+    let mut register = Register::from_parts(2, 5, records);
+    assert_eq!(register.turn(2), Ok(Answer::Written { turns: 1 }));
+    assert_eq!((register.records()[1].words()[4], register.records()[1].last()), (70_000, 6));
+    assert_eq!(register.page(1), Ok(()));
+}
+
 #[test]
 fn days_that_cannot_have_arisen() {
     let blank = |desks: usize| vec![Record::default(); desks];
     let mut nine = Register::from_parts(9, 0, blank(9));
     assert_eq!(nine.page(1), Err(Refusal::CannotArise));
-    assert_eq!(refused(&mut nine, Request::Turn { desk: 1 }, &mut [5; 9]), 11);
-    assert_eq!(refused(&mut nine, Request::Turn { desk: 1 }, &mut [5; 8]), 6);
+    assert_eq!(refused(&mut nine, Request::Turn { desk: 1 }, &mut [5; 18]), 11);
+    assert_eq!(refused(&mut nine, Request::Turn { desk: 1 }, &mut [5; 17]), 6);
     assert_eq!(nine.turn(1), Err(Refusal::CannotArise));
     for records in [0, 1, 3, 9] {
         let mut register = Register::from_parts(2, 0, blank(records));
         assert_eq!(refused(&mut register, Request::Page { desk: 1 }, &mut []), 6);
-        assert_eq!(refused(&mut register, Request::Turn { desk: 1 }, &mut [5; 8]), 6);
+        assert_eq!(refused(&mut register, Request::Turn { desk: 1 }, &mut [5; 16]), 6);
     }
-    // The row's seq and at, an unknown task, and too many turns, in the record of another desk.
-    for (place, word) in [(1, 6), (10, 6), (11, 4), (11, u32::MAX)] {
-        let mut words = [0; Record::WORDS];
-        words[place] = word;
-        let records = vec![Record::default(), Record::from_words(words)];
-        let mut register = Register::from_parts(2, 5, records);
+    // The row's last, seq and at, an unknown task, and too many turns, in the record of another desk.
+    for (place, word) in [(1, 6), (2, 6), (19, 6), (20, 4), (20, u32::MAX)] {
+        let mut register = with_word(place, word);
         assert_eq!(refused(&mut register, Request::Page { desk: 1 }, &mut []), 11);
+        assert_eq!(refused(&mut register, Request::Turn { desk: 1 }, &mut [5; 4]), 11);
+        assert_eq!(with_word(place, word).run(&[1, 2]), Ok(vec![Err(Refusal::CannotArise); 2]));
+    }
+    for place in [1, 2, 19] {
+        assert_eq!(with_word(place, 5).page(1), Ok(()));
     }
     for (task, most) in [(1, 7), (2, 7), (3, 8)] {
         for (turns, wanted) in [(most, Ok(())), (most + 1, Err(Refusal::CannotArise))] {
             let mut words = [0; Record::WORDS];
-            (words[11], words[14]) = (task, turns);
+            (words[20], words[23]) = (task, turns);
             let records = vec![Record::default(), Record::from_words(words)];
             assert_eq!(Register::from_parts(2, 5, records).page(1), wanted);
         }

@@ -37,15 +37,15 @@ fn into_tables(
     answers: &[Result<Answer, Refusal>],
     after: &Register,
 ) {
-    let n = register.desks() as usize;
+    let words = 2 * register.desks() as usize;
     let mut table = vec![BEFORE; desks.len() + more_places];
-    let mut pages = vec![WORD; desks.len() * n + more_words];
+    let mut pages = vec![WORD; desks.len() * words + more_words];
     register.run_into(desks, &mut table, &mut pages).unwrap();
     assert_eq!(register, *after);
     assert_eq!(table, [answers, &vec![BEFORE; more_places]].concat());
     let shown = |answer: &Result<Answer, Refusal>| match answer {
-        Ok(Answer::Page(page)) => page.words().to_vec(),
-        _ => vec![WORD; n],
+        Ok(Answer::Page(page)) => [page.words(), page.last()].concat(),
+        _ => vec![WORD; words],
     };
     let mut wanted: Vec<u32> = answers.iter().flat_map(shown).collect();
     wanted.extend(vec![WORD; more_words]);
@@ -54,8 +54,10 @@ fn into_tables(
 
 /// Runs whose tables are too short by a place, a word or both: refused, and nothing changes.
 fn too_short(before: &Register, desks: &[u32]) {
-    let (turns, words) = (desks.len(), desks.len() * before.desks() as usize);
-    let rooms = [(turns - 1, words), (turns, words - 1), (turns - 1, words - 1), (0, 0)];
+    let (turns, words) = (desks.len(), desks.len() * 2 * before.desks() as usize);
+    let short = [(turns - 1, words), (turns, words - 1), (turns - 1, words - 1), (0, 0)];
+    // Also with a word for each desk, but none for the number of its row's last writing.
+    let rooms = short.into_iter().chain([(turns, words / 2)]);
     for (places, words) in rooms {
         let mut register = before.clone();
         let (mut table, mut pages) = (vec![BEFORE; places], vec![WORD; words]);
@@ -79,7 +81,7 @@ fn a_page_and_an_entry_with_refused_turns_between() {
         match (i, answer) {
             (2 | 11, answer) => assert_eq!(answer, Err(Refusal::NoSuchDesk)),
             (7, Ok(Answer::Page(page))) => {
-                assert_eq!(page.words(), [11, 0]);
+                assert_eq!((page.words(), page.last()), (&[11, 0][..], &[6, 0][..]));
                 assert_eq!((page.lender(), page.at(), page.turns()), (None, 11, 4));
             }
             (8, answer) => assert_eq!(answer, Err(Refusal::DeskIdle)),
@@ -88,6 +90,7 @@ fn a_page_and_an_entry_with_refused_turns_between() {
         }
     }
     assert_eq!((register.event(), register.records()[1].word()), (17, 22));
+    assert_eq!(register.records()[1].last(), 17);
 }
 
 #[test]
