@@ -3,7 +3,7 @@ use Prim.Native.Nat.{ℕ, zero, suc, _+_, _≤_, _<_}
 use native.Mathlib.Omega.{arith}
 use mathlib.Core.Path.{_≡_, refl}
 use mathlib.Core.Bool.{Bool, true, false, cond, _||_, true≢false}
-use mathlib.Core.List.{List}
+use mathlib.Core.List.{List, [], _∷_}
 use mathlib.Core.Option.{Option, none, some}
 use lib.ListN.{length}
 use lib.Dec.{eqb, ltb}
@@ -72,3 +72,14 @@ module _ (bs : List ℕ) where
       go : (n : ℕ) → cond (eqb n 0) End (readingBy bs (firstCause (readingCauses bs))) ≡ Refused k → 0 < n
       go zero q = let z : _≡_ {A = ℕ} 0 1 = cc in absurd (omega arith)
       go (suc n) q = omega arith
+
+-- and where there is the end, there are none
+pub end-empty : (bs : List ℕ) → reading bs ≡ End → bs ≡ []
+unfolding reading
+end-empty [] q = refl
+end-empty (b ∷ bs) q = go (eqb (length (b ∷ bs)) 0) (firstCause (readingCauses (b ∷ bs))) (ne-eqb (length (b ∷ bs)) 0 (λ e. omega arith)) q
+  where
+    go : (t : Bool) (o : Option Refusal) → t ≡ false → cond t End (readingBy (b ∷ bs) o) ≡ End → b ∷ bs ≡ []
+    go true o n q = absurd (true≢false n)
+    go false none n q = let z : _≡_ {A = ℕ} 0 1 = cc in absurd (omega arith)
+    go false (some k) n q = let z : _≡_ {A = ℕ} 0 1 = cc in absurd (omega arith)

@@ -2,3 +2,4 @@
 pub mod Layout
 pub mod Reader
 pub mod Files
+pub mod Pieces

@@ -6,6 +6,7 @@ ghost use Prim.Native.Nat.{_+_, _<_, _≤_};
 ghost use lib.ListN.{length};
 ghost use Rattle.dayfile.specs.Layout.{numberAt, lengthOf};
 ghost use Rattle.dayfile.specs.Reader.{recordOf, reading};
+ghost use Rattle.dayfile.specs.Pieces.{spanOf};
 
 // What the reader finds: a record, which is a request, and how many bytes it takes, the ordinary end, or a refusal.
 pub enum Reading {
@@ -93,5 +94,34 @@ pub fn read(bytes: &[u8]) -> Reading
     Reading::Found {
         record: record_of(bytes, kind),
         next: 2 + length,
+    }
+}
+
+// How many bytes are passed over where the reader refuses: all of them after 7, else the two length bytes and as many as they say.
+fn refused_span(bytes: &[u8], k: Refusal) -> usize
+    ensures { λ n. ⌜ n ≡ spanOf (now (bytes .entry)) (Reading.Refused k) ⌝ }
+{
+    let left = bytes.len();
+    if snapshot::number(k) == 7 {
+        return left;
+    }
+    if left < 2 {
+        return left;
+    }
+    let said = 2 + field(bytes, 0) as usize;
+    if left < said {
+        return left;
+    }
+    said
+}
+
+// How many of the bytes belong to what was read at their start.
+pub fn span(bytes: &[u8], x: Reading) -> usize
+    ensures { λ n. ⌜ n ≡ spanOf (now (bytes .entry)) x ⌝ }
+{
+    match x {
+        Reading::Found { record: _, next } => next,
+        Reading::End => 0,
+        Reading::Refused(k) => refused_span(bytes, k),
     }
 }

@@ -10,7 +10,7 @@ use lib.Dec.{T, ltb}
 use lib.ListN.{length, take, drop, take-append-drop}
 use lib.Seq.{take-at, length-front, length-take-le}
 use borrow.Author.Tests.{ltb-false}
-use Rattle.snapshot.specs.Demand.{Result}
+use Rattle.snapshot.specs.Demand.{Result, refusalOf}
 use Rattle.snapshot.specs.Days.{State, Item, pageLent}
 use Rattle.snapshot.specs.declared.Day.{Day}
 use Rattle.snapshot.specs.declared.Refusal.{Refusal}
@@ -23,6 +23,7 @@ use Rattle.dayfile.specs.declared.Reading.the-variants.{Found, End, Refused}
 use Rattle.unbounded.specs.declared.Process.{Process}
 use Rattle.unbounded.specs.Registers.{ascending}
 use Rattle.unbounded.specs.Days.{figure3, stepped}
+use Rattle.unbounded.proofs.Answered.{refused-answers}
 use Rattle.requests.specs.Requests.{itemOf, pageAfter, isOpening}
 use Rattle.memory.specs.Tables.{stateOf, refusalIn}
 use Rattle.memory.proofs.Accepted.{after-refusal}
@@ -101,6 +102,10 @@ module _ (b : Box) where
       refused-stays =
           let z : Result (State Process) = record { state = lent b r; answer = Answers.Refused k; page = pageLent (item b r) } in
           ap boxWith refused-result ∙ same-box (lentTo (b .day) r) (pageAfter (b .page) z r) (sym (after-refusal (b .page) z r refl))
+
+    -- a record that is answered with a refusal
+    pub answered-stays : (k : Refusal) → refusalOf (outcomeIn b (Found r next) .answer) ≡ some k → boxAfter b (Found r next) ≡ b
+    answered-stays k q = refused-stays k (sym (refused-answers (lent b r) (item b r)) ∙ q)
 
     pub size-stays : length (boxAfter b (Found r next) .table) ≡ length (b .table)
     size-stays =

@@ -1,5 +1,4 @@
 -- How the code gathers, what is held in the end, and answers computed from the bytes of files.
-pub mod Blank
 pub mod Putting
 pub mod Passing
 pub mod Kept

@@ -5,8 +5,8 @@ use native.Mathlib.Omega.{arith}
 use mathlib.Core.Path.{_≡_, refl, sym, ap, ap₂, _∙_, subst}
 use mathlib.Core.Bool.{true, false, cond}
 use mathlib.Core.List.{List, [], _∷_, _++_}
-use lib.ListN.{length, take, drop, length-drop}
-use lib.Seq.{take-all, drop-drop}
+use lib.ListN.{length, drop, length-drop}
+use lib.Seq.{drop-drop}
 use Rattle.snapshot.specs.declared.Outcome.{Outcome}
 use Rattle.dayfile.specs.Reader.{reading}
 use Rattle.dayfile.specs.declared.Reading.{Reading}
@@ -43,10 +43,6 @@ with-both g [] ys = refl
 with-both g (a ∷ xs) ys = with-both _ xs ys
 
 -- ---- a lap
-
--- the bytes from `at` on
-pub from-at : (at : ℕ) (bytes : List ℕ) → take (length bytes - at) (drop at bytes) ≡ drop at bytes
-from-at at bytes = let l = length-drop at bytes in take-all (length bytes - at) (drop at bytes) (omega (arith, l))
 
 -- what a lap keeps
 pub record Kept (bytes : List ℕ) (s : Progress) (t : List (List ℕ)) (page : List ℕ) (rows : List (List ℕ)) (s′ : Progress)

@@ -6,6 +6,7 @@ use mathlib.Core.Path.{_≡_, refl, sym, ap, ap₂, _∙_}
 use mathlib.Core.List.{List, [], _∷_, _++_, append-nil, append-assoc}
 use lib.ListN.{length, take, drop, set, take-append-drop, length-drop}
 use lib.Seq.{drop-drop, drop-length, getD-drop, length-take-le, set-set, set-comm, sets, sets-eq}
+use Rattle.snapshot.proofs.Lists.{sets-then}
 use Rattle.packed.specs.Packing.{wordAt, words}
 
 -- words that are there
@@ -61,13 +62,6 @@ pub sets-same : (k : ℕ) (ws : List ℕ) → sets ws 0 (words k ws) ≡ ws
 sets-same zero ws = refl
 sets-same (suc k) [] = sets-nil 0 (words (suc k) [])
 sets-same (suc k) (x ∷ l) = sets-cons x l 0 (words k l) ∙ ap (λ r. x ∷ r) (sets-same k l)
-
--- some words stored, and others where they end
-pub sets-then : (ws : List ℕ) (a : ℕ) (us vs : List ℕ) → sets (sets ws a us) (a + length us) vs ≡ sets ws a (us ++ vs)
-sets-then ws a [] vs = ap (λ i. sets ws i vs) (add-zero a)
-sets-then ws a (u ∷ us) vs =
-    let e : a + suc (length us) ≡ suc a + length us = omega arith in
-    ap (λ i. sets (sets (set ws a u) (suc a) us) i vs) e ∙ sets-then (set ws a u) (suc a) us vs
 
 -- one word more
 pub sets-more : (ws : List ℕ) (a : ℕ) (vs : List ℕ) (i : ℕ) → i < length vs →

@@ -11,7 +11,7 @@ use mathlib.Core.List.{List, [], _∷_, _++_, map}
 use lib.ListN.{length, getD, take, drop, set, replicate, length-append, length-drop, length-replicate, getD-replicate}
 use lib.ListN.{List·getD-append}
 use lib.Seq.{take-at, drop-at, take-all, getD-at, getD-append-add, getD-drop, getD-take, ext-getD, drop-cons, set-at}
-use lib.Seq.{length-take-le, append-snoc, take-suc, take-take}
+use lib.Seq.{length-take-le, append-snoc, take-suc, take-take, sets}
 use Rattle.snapshot.proofs.Booleans.{or-neither}
 use Rattle.snapshot.specs.Lists.{sumOf, over, eachFrom, each, firstFrom, firstBelow, someOf}
 
@@ -270,3 +270,18 @@ sum-same f g [] (b ∷ m) y z q h = absurd (omega arith)
 sum-same f g (a ∷ l) [] y z q h = absurd (omega arith)
 sum-same f g (a ∷ l) (b ∷ m) y z q h =
     ap₂ _+_ (h 0 (omega arith)) (sum-same f g l m y z (omega arith) (λ i w. h (suc i) (omega arith)))
+
+-- ---- parts
+
+-- all elements from a place on
+pub from-at : {A : Type 0} (at : ℕ) (l : List A) → take (length l - at) (drop at l) ≡ drop at l
+from-at at l = let n = length-drop at l in take-all (length l - at) (drop at l) (omega (arith, n))
+
+-- ---- runs of stores
+
+-- some elements stored, and others where they end
+pub sets-then : {A : Type 0} (l : List A) (a : ℕ) (us vs : List A) → sets (sets l a us) (a + length us) vs ≡ sets l a (us ++ vs)
+sets-then l a [] vs = let e : a + 0 ≡ a = omega arith in ap (λ i. sets l i vs) e
+sets-then l a (u ∷ us) vs =
+    let e : a + suc (length us) ≡ suc a + length us = omega arith in
+    ap (λ i. sets (sets (set l a u) (suc a) us) i vs) e ∙ sets-then (set l a u) (suc a) us vs

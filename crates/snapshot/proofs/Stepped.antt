@@ -14,7 +14,7 @@ use Rattle.snapshot.specs.declared.Refusal.{Refusal}
 use Rattle.snapshot.specs.declared.Answer.the-variants.{Refused}
 use Rattle.snapshot.specs.Refusals.{firstCause}
 use Rattle.snapshot.specs.Tally.{Job, scan, update}
-use Rattle.snapshot.specs.Demand.{admit, step}
+use Rattle.snapshot.specs.Demand.{admit, step, refusalOf}
 use Rattle.snapshot.specs.Days.{Machine, State, Item, openFor, updateCall, scanCall, turnOf, pageLent}
 use Rattle.snapshot.specs.Days.{processOf, callCauses, turnCauses, refusal}
 use Rattle.snapshot.specs.Days.{advance, calledBy, readFrom, turnBy, accept, method, openedFor, stepped}
@@ -39,6 +39,23 @@ module _ (M : Machine) (s : State (M .Process)) (x : Item) where
   pub acceptance-does : refusal M s x ≡ none → stepped M s x ≡ accept M s x
   unfolding stepped step
   acceptance-does q = ap (λ o. admit (method M (s .day .count)) s x o) q
+
+-- a machine none of whose turns answers a refusal answers one just where it refuses
+module _ (M : Machine) (turns : (n i now : ℕ) (other : M .Process) (page : List ℕ) (p : M .Process) →
+    refusalOf (M .turned n i now other page p .answer) ≡ none) where
+  accepted-answer : (s : State (M .Process)) (x : Item) → refusalOf (accept M s x .answer) ≡ none
+  unfolding accept turnBy
+  accepted-answer s (openFor k) = refl
+  accepted-answer s (updateCall d w) = refl
+  accepted-answer s (scanCall d) = refl
+  accepted-answer s (turnOf d page) = turns _ _ _ _ page (processOf M s d)
+
+  pub answers-refusal : (s : State (M .Process)) (x : Item) → refusalOf (stepped M s x .answer) ≡ refusal M s x
+  answers-refusal s x = go (refusal M s x) refl
+    where
+      go : (k : Option Refusal) → refusal M s x ≡ k → refusalOf (stepped M s x .answer) ≡ k
+      go none q = ap (λ r. refusalOf (r .answer)) (acceptance-does M s x q) ∙ accepted-answer s x
+      go (some k) q = ap (λ r. refusalOf (r .answer)) (refusal-changes-nothing M s x k q)
 
 -- ---- days grown from an opening
 

@@ -21,3 +21,4 @@ pub mod RefusedDays
 pub mod RunDays
 pub mod Figure3
 pub mod Procedures
+pub mod Answered

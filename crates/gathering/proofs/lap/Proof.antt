@@ -5,7 +5,7 @@ use mathlib.Core.Path.{sym, ap, _∙_}
 use lib.ListN.{length, drop, length-drop}
 use Rattle.dayfile.proofs.Reader.{found-consumes}
 use Rattle.dayfile.specs.Reader.{reading}
-use Rattle.gathering.proofs.Passing.{from-at}
+use Rattle.snapshot.proofs.Lists.{from-at}
 use borrow.Author.Needs.{needs}
 use Rattle.gathering.proofs.lap.Statement.{statement}
 use Rattle.gathering.proofs.lap.Tie as tie

@@ -7,7 +7,7 @@ use lib.ListN.{length, getD, take, length-append}
 use lib.Seq.{sets, take-all}
 use Rattle.unbounded.specs.Registers.{noRegister}
 use Rattle.packed.specs.Packing.{packRegister, packCollect}
-use Rattle.packed.proofs.Words.{sets-then}
+use Rattle.snapshot.proofs.Lists.{sets-then}
 use Rattle.packed.proofs.Packing.{register-long}
 use Rattle.packed_stores.proofs.Stored.{stored-whole, chained-more}
 use borrow.Author.Needs.{needs}

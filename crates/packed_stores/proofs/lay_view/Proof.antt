@@ -7,7 +7,7 @@ use lib.ListN.{length, getD, take, set}
 use lib.Seq.{sets}
 use Rattle.snapshot.specs.Values.{zeroValue}
 use Rattle.packed.specs.Packing.{packValue, packView}
-use Rattle.packed.proofs.Words.{sets-then}
+use Rattle.snapshot.proofs.Lists.{sets-then}
 use Rattle.packed_stores.proofs.Stored.{chained-more, shown-long}
 use borrow.Author.Needs.{needs}
 use Rattle.packed_stores.proofs.lay_view.Statement.{statement}

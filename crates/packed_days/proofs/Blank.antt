@@ -1,4 +1,4 @@
--- The table that a file begins with: words of 0 are blank records.
+-- The box that a file begins with: words of 0 are blank records.
 use Prim.Native.Nat.{ℕ, zero, suc}
 use native.Mathlib.Nat.{not-suc-le-zero, le-of-suc-le-suc}
 use mathlib.Core.Path.{_≡_, refl, ap}
@@ -7,9 +7,9 @@ use lib.ListN.{length, replicate}
 use Rattle.snapshot.specs.Requests.{blankDay}
 use Rattle.unbounded.specs.Processes.{zeroProcess}
 use Rattle.packed.specs.Packing.{unpackRecord}
-use Rattle.days.specs.Happenings.{fileOn, dayOf}
+use Rattle.days.specs.Happenings.{blankBox}
 use Rattle.packed_rows.specs.Rows.{LongRows}
 use Rattle.packed_days.specs.Boxes.{boxIn}
 
 abbrev pub blank-words : List (List ℕ)
 blank-words = replicate 8 (replicate 369 0)
@@ -26,7 +26,5 @@ blank-record : unpackRecord (replicate 369 0) ≡ zeroProcess
 unfolding unpackRecord
 blank-record = refl
 
-pub blank-file : (bytes : List ℕ) → fileOn (boxIn blankDay blank-words (replicate 16 0)) bytes ≡ dayOf bytes
-unfolding dayOf
-blank-file bytes =
-    ap (λ p. fileOn (record { day = blankDay; table = replicate 8 p; page = replicate 16 0 }) bytes) blank-record
+pub blank-box : boxIn blankDay blank-words (replicate 16 0) ≡ blankBox
+blank-box = ap (λ p. record { day = blankDay; table = replicate 8 p; page = replicate 16 0 }) blank-record

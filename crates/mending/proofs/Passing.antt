@@ -1,0 +1,223 @@
+-- A piece that is judged and kept or dropped is a pass of one part (`keeps-piece`, `drops-piece`), passes one after the other are one
+-- (`pass-then`), and a pass to the end of a file, from its beginning on, is the whole (`all-done`).
+use Prim.Native.Nat.{ℕ, _+_, _-_, _≤_, _<_}
+use native.Mathlib.Omega.{arith}
+use native.Mathlib.Nat.{le-refl}
+use mathlib.Core.Path.{_≡_, refl, sym, ap, ap₂, _∙_, subst}
+use mathlib.Core.List.{List, [], _∷_, _++_, map, append-assoc, append-nil, map-append}
+use mathlib.Core.Option.{Option, none, some}
+use lib.ListN.{length, take, drop, set, length-append, length-drop, length-map, drop-of-length-le}
+use lib.Seq.{sets, length-take-le, drop-drop}
+use Rattle.snapshot.specs.Refusals.{numberOf}
+use Rattle.snapshot.specs.Lists.{sumOf}
+use Rattle.snapshot.specs.declared.Refusal.{Refusal}
+use Rattle.snapshot.proofs.Lists.{sum-append, sets-then}
+use Rattle.admission.specs.declared.Check.{Check}
+use Rattle.admission.specs.declared.Check.the-variants.{Passed, Refused}
+use Rattle.admission.specs.Checks.{asOption}
+use Rattle.dayfile.specs.Reader.{reading}
+use Rattle.dayfile.specs.Pieces.{spanOf, piecesUpTo, pieces}
+use Rattle.dayfile.proofs.Pieces.{span-fits, first-piece}
+use Rattle.days.specs.Happenings.{Box}
+use Rattle.packed_rows.specs.Rows.{LongRows}
+use Rattle.packed_days.specs.Boxes.{boxIn}
+use Rattle.mending.specs.declared.Judged.{Judged}
+use Rattle.mending.specs.declared.Progress.{Progress}
+use Rattle.mending.specs.Mending.{Part, judged, bytesKept, keptOf, dropBy, dropsOf}
+use Rattle.mending.specs.Results.{rowOf}
+use Rattle.mending.specs.Passes.{IsJudged, Steady, Standing, standing, partsLeft, bytesIn, IsPass}
+
+-- ---- lists of parts
+
+kept-append : (ps qs : List Part) → keptOf (ps ++ qs) ≡ keptOf ps ++ keptOf qs
+kept-append [] qs = refl
+kept-append (p ∷ ps) qs =
+    ap (λ bs. bytesKept (p .refusal) (p .bytes) ++ bs) (kept-append ps qs)
+    ∙ sym (append-assoc (bytesKept (p .refusal) (p .bytes)) (keptOf ps) (keptOf qs))
+
+drops-append : (at : ℕ) (ps qs : List Part) → dropsOf at (ps ++ qs) ≡ dropsOf at ps ++ dropsOf (at + bytesIn ps) qs
+drops-append at [] qs = let e : at ≡ at + 0 = omega arith in ap (λ i. dropsOf i qs) e
+drops-append at (p ∷ ps) qs =
+    let n = length (p .bytes) in
+    let e : at + n + bytesIn ps ≡ at + (n + bytesIn ps) = omega arith in
+    ap (λ ds. dropBy at n (p .refusal) ++ ds) (drops-append (at + n) ps qs ∙ ap (λ i. dropsOf (at + n) ps ++ dropsOf i qs) e)
+    ∙ sym (append-assoc (dropBy at n (p .refusal)) (dropsOf (at + n) ps) (dropsOf (at + (n + bytesIn ps)) qs))
+
+-- no more bytes are kept than there are, and no more parts dropped
+kept-few : (ps : List Part) → length (keptOf ps) ≤ bytesIn ps
+kept-few [] = le-refl 0
+kept-few (p ∷ ps) = go (p .refusal) (kept-few ps)
+  where
+    go : (k : Option Refusal) → length (keptOf ps) ≤ bytesIn ps →
+        length (bytesKept k (p .bytes) ++ keptOf ps) ≤ length (p .bytes) + bytesIn ps
+    go none l = simp length-append (omega arith)
+    go (some k) l = omega arith
+
+drops-few : (at : ℕ) (ps : List Part) → length (dropsOf at ps) ≤ length ps
+drops-few at [] = le-refl 0
+drops-few at (p ∷ ps) = go (p .refusal) (drops-few (at + length (p .bytes)) ps)
+  where
+    go : (k : Option Refusal) → length (dropsOf (at + length (p .bytes)) ps) ≤ length ps →
+        length (dropBy at (length (p .bytes)) k ++ dropsOf (at + length (p .bytes)) ps) ≤ length (p ∷ ps)
+    go none l = omega arith
+    go (some k) l = omega arith
+
+-- ---- a piece
+
+module _ {at : ℕ} {file : List ℕ} {b : Box} {j : Judged} {t : List (List ℕ)} {page : List ℕ} (is : IsJudged at file b j t page)
+    (more : at < length file) where
+  pub piece-fits : (0 < j .span) × (at + j .span ≤ length file)
+  piece-fits =
+      let l = length-drop at file in
+      let fits = span-fits (drop at file) (is .found) (sym (is .read)) (omega arith) in
+      let size = is .sized in
+      (omega arith, omega arith)
+
+  -- its bytes
+  abbrev pub piece : List ℕ
+  piece = take (j .span) (drop at file)
+
+  pub piece-long : length piece ≡ j .span
+  piece-long =
+      let l = length-drop at file in
+      let fits = piece-fits in
+      length-take-le (j .span) (drop at file) (omega arith)
+
+  -- the parts of what is left are this one, and those of what is behind it
+  piece-first : judged b (pieces (drop at file)) ≡
+      record { bytes = piece; refusal = asOption (j .check) } ∷ judged (boxIn (j .day) t page) (pieces (drop (at + j .span) file))
+  piece-first =
+      let l = length-drop at file in
+      let bs = drop at file in
+      let size = sym (is .sized) in
+      let check = sym (is .checked) in
+      let box = sym (is .after .box) in
+      ap (judged b) (first-piece bs (is .found) (sym (is .read)) (omega arith))
+      ∙ (λ i. record { bytes = take (size i) bs; refusal = check i } ∷ judged (box i) (pieces (drop (size i) bs)))
+      ∙ ap (λ cs. record { bytes = piece; refusal = asOption (j .check) } ∷ judged (boxIn (j .day) t page) (pieces cs))
+      (drop-drop (j .span) at file)
+
+-- all between its ends, as the code finds it
+pub between : (at n : ℕ) (l : List ℕ) → take (at + n - at) (drop at l) ≡ take n (drop at l)
+between at n l = let e : at + n - at ≡ n = omega arith in ap (λ k. take k (drop at l)) e
+
+-- ---- a pass of one part
+
+module _ (file : List ℕ) (s : Progress) (t : List (List ℕ)) (page room : List ℕ) (rows : List (List ℕ)) (j : Judged)
+    (t′ : List (List ℕ)) (page′ : List ℕ) (is : IsJudged (s .at) file (boxIn (s .day) t page) j t′ page′) (more : s .at < length file)
+  where
+    abbrev bs : List ℕ
+    bs = take (j .span) (drop (s .at) file)
+
+    -- the progress behind the piece, with these counts
+    abbrev behind : (kept drops : ℕ) → Progress
+    behind kept drops = record { day = j .day; at = s .at + j .span; kept = kept; drops = drops }
+
+    -- what is kept of a piece, and its drop, go into the next places
+    one-part : (k : Option Refusal) → asOption (j .check) ≡ k → (kept drops : ℕ) (room′ : List ℕ) (rows′ : List (List ℕ)) →
+        kept ≡ s .kept + length (bytesKept k bs) → room′ ≡ sets room (s .kept) (bytesKept k bs) →
+        drops ≡ s .drops + length (dropBy (s .at) (j .span) k) → rows′ ≡ sets rows (s .drops) (map rowOf (dropBy (s .at) (j .span) k)) →
+        IsPass file 1 (standing s t page room rows) (standing (behind kept drops) t′ page′ room′ rows′)
+    one-part k q kept drops room′ rows′ kept-is room-is drops-is rows-is =
+        let fits = piece-fits is more in
+        let long = piece-long is more in
+        let part : Part = record { bytes = bs; refusal = k } in
+        let kept-one : keptOf (part ∷ []) ≡ bytesKept k bs = append-nil (bytesKept k bs) in
+        let drops-one : dropsOf (s .at) (part ∷ []) ≡ dropBy (s .at) (j .span) k =
+        append-nil (dropBy (s .at) (length bs) k) ∙ ap (λ n. dropBy (s .at) n k) long in
+        record {
+          done = part ∷ [];
+          counted = refl;
+          parts = piece-first is more
+              ∙ ap (λ o. record { bytes = bs; refusal = o } ∷ partsLeft file (standing (behind kept drops) t′ page′ room′ rows′)) q;
+          moved = omega arith;
+          onward = omega arith;
+          within = fits .1;
+          kept = kept-is ∙ ap (λ l. s .kept + length l) (sym kept-one);
+          room = room-is ∙ ap (sets room (s .kept)) (sym kept-one);
+          drops = drops-is ∙ ap (λ l. s .drops + length l) (sym drops-one);
+          rows = rows-is ∙ ap (λ l. sets rows (s .drops) (map rowOf l)) (sym drops-one);
+          long = is .after .long;
+        }
+
+    pub keeps-piece : j .check ≡ Passed → (room′ : List ℕ) → room′ ≡ sets room (s .kept) (take (s .at + j .span - s .at) (drop (s .at) file)) →
+        IsPass file 1 (standing s t page room rows) (standing (behind (s .kept + j .span) (s .drops)) t′ page′ room′ rows)
+    keeps-piece passed room′ laid =
+        one-part none (ap asOption passed) (s .kept + j .span) (s .drops) room′ rows
+        (ap (λ n. s .kept + n) (sym (piece-long is more))) (laid ∙ ap (sets room (s .kept)) (between (s .at) (j .span) file)) (omega arith) refl
+
+    pub drops-piece : (k : Refusal) → j .check ≡ Refused k → (number : ℕ) → number ≡ numberOf k → (rows′ : List (List ℕ)) →
+        rows′ ≡ set rows (s .drops) (s .at ∷ j .span ∷ number ∷ []) →
+        IsPass file 1 (standing s t page room rows) (standing (behind (s .kept) (s .drops + 1)) t′ page′ room rows′)
+    drops-piece k refused number is-number rows′ put =
+        one-part (some k) (ap asOption refused) (s .kept) (s .drops + 1) room rows′ (omega arith) refl refl
+        (put ∙ ap (λ n. set rows (s .drops) (s .at ∷ j .span ∷ n ∷ [])) is-number)
+
+-- ---- several
+
+module _ {file : List ℕ} where
+  pub pass-none : {w : Standing} → w .progress .at ≤ length file → LongRows (w .table) → IsPass file 0 w w
+  pass-none within long =
+      record {
+        done = [];
+        counted = refl;
+        parts = refl;
+        moved = omega arith;
+        onward = omega arith;
+        within = within;
+        kept = omega arith;
+        room = refl;
+        drops = omega arith;
+        rows = refl;
+        long = long;
+      }
+
+  pub pass-then : {i j : ℕ} {u v w : Standing} → IsPass file i u v → IsPass file j v w → IsPass file (i + j) u w
+  pass-then {i} {j} {u} {v} {w} p q =
+      let a = u .progress .at in
+      let moved : v .progress .at ≡ a + bytesIn (p .done) = p .moved in
+      let sum = sum-append (λ (x : Part). length (x .bytes)) (p .done) (q .done) in
+      let kept = kept-append (p .done) (q .done) in
+      let both = length-append (keptOf (p .done)) (keptOf (q .done)) in
+      let dropping : dropsOf a (p .done ++ q .done) ≡ dropsOf a (p .done) ++ dropsOf (v .progress .at) (q .done) =
+      drops-append a (p .done) (q .done) ∙ ap (λ k. dropsOf a (p .done) ++ dropsOf k (q .done)) (sym moved) in
+      let drops = length-append (dropsOf a (p .done)) (dropsOf (v .progress .at) (q .done)) in
+      let rowsOne = map rowOf (dropsOf a (p .done)) in
+      let rowsTwo = map rowOf (dropsOf (v .progress .at) (q .done)) in
+      record {
+        done = p .done ++ q .done;
+        counted = length-append (p .done) (q .done) ∙ ap₂ _+_ (p .counted) (q .counted);
+        parts = p .parts ∙ ap (λ ps. p .done ++ ps) (q .parts) ∙ sym (append-assoc (p .done) (q .done) (partsLeft file w));
+        moved = let m = q .moved in omega arith;
+        onward = let m = p .onward in let n = q .onward in omega arith;
+        within = q .within;
+        kept = let m = p .kept in let n = q .kept in let l = ap length kept in omega arith;
+        room = q .room
+            ∙ ap₂ (λ r k. sets r k (keptOf (q .done))) (p .room) (p .kept)
+            ∙ sets-then (u .room) (u .progress .kept) (keptOf (p .done)) (keptOf (q .done))
+            ∙ ap (sets (u .room) (u .progress .kept)) (sym kept);
+        drops = let m = p .drops in let n = q .drops in let l = ap length dropping in omega arith;
+        rows = q .rows
+            ∙ ap₂ (λ r k. sets r k rowsTwo) (p .rows)
+            (p .drops ∙ ap (λ k. u .progress .drops + k) (sym (length-map (dropsOf a (p .done)) rowOf)))
+            ∙ sets-then (u .rows) (u .progress .drops) rowsOne rowsTwo
+            ∙ ap (sets (u .rows) (u .progress .drops))
+            (sym (map-append rowOf (dropsOf a (p .done)) (dropsOf (v .progress .at) (q .done))) ∙ sym (ap (map rowOf) dropping));
+        long = q .long;
+      }
+
+  -- the counts stay below the place
+  pub pass-steady : {count : ℕ} {w v : Standing} → IsPass file count w v → Steady (w .progress) → Steady (v .progress)
+  pass-steady {count} {w} p steady =
+      let l = kept-few (p .done) in
+      let m = drops-few (w .progress .at) (p .done) in
+      let a = steady .kept in let b = steady .drops in let c = p .moved in let d = p .onward in
+      let e = p .kept in let f = p .drops in let g = p .counted in
+      record { kept = omega arith; drops = omega arith }
+
+-- at the end of the file nothing is left
+pub none-left : (file : List ℕ) (w : Standing) → length file ≤ w .progress .at → partsLeft file w ≡ []
+unfolding pieces piecesUpTo
+none-left file w end =
+    let b = boxIn (w .progress .day) (w .table) (w .page) in
+    ap (λ bs. judged b (pieces bs)) (drop-of-length-le file {i = w .progress .at} end)

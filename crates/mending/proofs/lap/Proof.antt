@@ -1,0 +1,126 @@
+-- `mending::lap` meets its contract.
+use Prim.Native.Nat.{_+_, _≤_, _<_}
+use native.Mathlib.Omega.{arith}
+use mathlib.Core.Path.{_≡_, refl, sym, ap, _∙_}
+use lib.ListN.{length, take, drop}
+use Rattle.mending.proofs.Passing.{piece-fits, piece-long, between, keeps-piece, drops-piece}
+use borrow.Author.Needs.{needs}
+use Rattle.mending.proofs.lap.Statement.{statement}
+use Rattle.mending.proofs.lap.Tie as tie
+
+-- what is known once the piece is judged
+abbrev Judging : Type 0
+Judging = tie.After-judge
+
+abbrev start-of : Judging → tie.Start
+start-of j = j .before .before .before .before .before .before .before
+
+fits : (j : Judging) → let a = start-of j .args in (0 < j .judge .result .span) × (a .s .at + j .judge .result .span ≤ length (a .bytes .now))
+fits j = piece-fits (j .judge .ensures) (start-of j .pre .0 .more)
+
+small : (j : Judging) → length (start-of j .args .bytes .now) < 18446744073709551616
+small j = let held = start-of j .good in omega (arith, held)
+
+judge-requires : tie.Need-judge-requires
+judge-requires c κs = search needs
+
+add-end : tie.Need-add-end
+add-end c = let j = c .before .before .before .before in let f = fits j in let s = small j in omega arith
+
+enum-told : tie.Need-enum-told
+enum-told c = search needs
+
+sub-lay : tie.Need-sub-lay
+sub-lay c = search needs
+
+part-lay-start : tie.Need-part-lay-start
+part-lay-start c = search needs
+
+part-lay-end : tie.Need-part-lay-end
+part-lay-end c = let j = c .before .before .before .before .before .before in let f = fits j in omega arith
+
+lay-requires : tie.Need-lay-requires
+lay-requires c κs =
+    let j = c .before .before .before .before .before .before .before .before in
+    let a = start-of j .args in
+    let long = ap length (between (a .s .at) (j .judge .result .span) (a .bytes .now)) ∙ piece-long (j .judge .ensures) (start-of j .pre .0 .more) in
+    let f = fits j in let s = small j in let k = start-of j .pre .1 .kept in
+    omega arith
+
+add-t22 : tie.Need-add-t22
+add-t22 c = let j = c .before .before .before .before .before .before .before .before .before .before .before .before in let f = fits j in let s = small j in let k = start-of j .pre .1 .kept in record { fits = omega arith }
+
+enum-known-check : tie.Need-enum-known-check
+enum-known-check c = search needs
+
+number-requires : tie.Need-number-requires
+number-requires c κs = search needs
+
+cast-t31 : tie.Need-cast-t31
+cast-t31 c = search needs
+
+put-requires : tie.Need-put-requires
+put-requires c κs = search needs
+
+add-t35 : tie.Need-add-t35
+add-t35 c = search needs
+
+same-length : tie.Need-same-length
+same-length c = search needs
+
+same-length-2 : tie.Need-same-length-2
+same-length-2 c = search needs
+
+same-length-3 : tie.Need-same-length-3
+same-length-3 c = search needs
+
+returns : tie.Need-returns
+returns c =
+    let at-told = c .before .before .before .before .before .before in
+    let j = at-told .before .before .before .before .before .before in
+    let a = start-of j .args in
+    keeps-piece _ (a .s) (a .t .now) (a .page .now) (a .room .now) (a .rows .now) (j .judge .result) _ _ (j .judge .ensures) (start-of j .pre .0 .more)
+    (at-told .enum-told .given .1) _ (c .before .before .before .lay .ensures)
+
+same-length-4 : tie.Need-same-length-4
+same-length-4 c = search needs
+
+same-length-5 : tie.Need-same-length-5
+same-length-5 c = search needs
+
+same-length-6 : tie.Need-same-length-6
+same-length-6 c = search needs
+
+returns-2 : tie.Need-returns-2
+returns-2 c =
+    let at-known = c .before .before .before .before .before .before in
+    let j = at-known .before .before .before .before .before .before in
+    let a = start-of j .args in
+    drops-piece _ (a .s) (a .t .now) (a .page .now) (a .room .now) (a .rows .now) (j .judge .result) _ _ (j .judge .ensures) (start-of j .pre .0 .more)
+    _ (at-known .check .given .1) _ (c .before .before .before .before .number .ensures) _ (c .before .before .put .ensures)
+
+pub lap-spec : {M : Type 1} → statement M
+lap-spec =
+    tie.close
+    (tie.spec
+    judge-requires
+    add-end
+    enum-told
+    sub-lay
+    part-lay-start
+    part-lay-end
+    lay-requires
+    add-t22
+    enum-known-check
+    number-requires
+    cast-t31
+    put-requires
+    add-t35
+    same-length
+    same-length-2
+    same-length-3
+    returns
+    same-length-4
+    same-length-5
+    same-length-6
+    returns-2)

@@ -1,0 +1,90 @@
+-- How the code mends: a piece at a time.
+use Prim.Native.Nat.{ℕ, _+_, _≤_, _<_}
+use mathlib.Core.Path.{_≡_}
+use mathlib.Core.List.{List, [], _∷_, _++_, map}
+use lib.ListN.{length, drop}
+use lib.Seq.{sets}
+use Rattle.snapshot.specs.Lists.{sumOf}
+use Rattle.snapshot.specs.Requests.{blankDay}
+use Rattle.snapshot.specs.declared.Day.{Day}
+use Rattle.admission.specs.Checks.{asOption}
+use Rattle.dayfile.specs.declared.Reading.{Reading}
+use Rattle.dayfile.specs.Reader.{reading}
+use Rattle.dayfile.specs.Pieces.{spanOf, pieces}
+use Rattle.days.specs.Happenings.{Box, outcomeIn}
+use Rattle.packed_rows.specs.Rows.{LongRows}
+use Rattle.packed_days.specs.Boxes.{boxIn, IsAfter}
+use Rattle.mending.specs.declared.Judged.{Judged}
+use Rattle.mending.specs.declared.Progress.{Progress}
+use Rattle.mending.specs.Mending.{refusalBy, Part, judged, keptOf, dropsOf, mended, dropped}
+use Rattle.mending.specs.Results.{rowOf}
+
+-- ---- one piece
+
+-- there is a byte to read, and a table of eight packed records
+pub record Ready (at : ℕ) (bytes : List ℕ) (t : List (List ℕ)) : Type 0 where
+  pub more : at < length bytes
+  pub eight : length t ≡ 8
+  pub long : LongRows t
+
+-- what stands at a place was read and run: its day, its size and its refusal, if any
+pub record IsJudged (at : ℕ) (bytes : List ℕ) (b : Box) (j : Judged) (t : List (List ℕ)) (page : List ℕ) : Type 0 where
+  pub found : Reading
+  pub read : found ≡ reading (drop at bytes)
+  pub after : IsAfter found b (j .day) t page
+  pub sized : j .span ≡ spanOf (drop at bytes) found
+  pub checked : asOption (j .check) ≡ refusalBy found (outcomeIn b found)
+
+-- ---- several
+
+abbrev pub blankProgress : Progress
+blankProgress = record { day = blankDay; at = 0; kept = 0; drops = 0 }
+
+-- no more is kept or dropped than bytes were read, so that neither count can be too great
+pub record Steady (s : Progress) : Type 0 where
+  pub kept : s .kept ≤ s .at
+  pub drops : s .drops ≤ s .at
+
+-- how far a file has come, with the table and the page list of its day and both rooms
+pub record Standing : Type 0 where
+  pub progress : Progress
+  pub table : List (List ℕ)
+  pub page : List ℕ
+  pub room : List ℕ
+  pub rows : List (List ℕ)
+
+abbrev pub standing : Progress → (table : List (List ℕ)) → (page room : List ℕ) → (rows : List (List ℕ)) → Standing
+standing s t page room rows = record { progress = s; table = t; page = page; room = room; rows = rows }
+
+-- the parts that are left of a file
+abbrev pub partsLeft : (file : List ℕ) → Standing → List Part
+partsLeft file w = judged (boxIn (w .progress .day) (w .table) (w .page)) (pieces (drop (w .progress .at) file))
+
+abbrev pub bytesIn : List Part → ℕ
+bytesIn ps = sumOf (λ p. length (p .bytes)) ps
+
+-- from w to v the next parts of a file, so many, were done: what is kept of them was laid into one room, and their drops into the other
+pub record IsPass (file : List ℕ) (count : ℕ) (w v : Standing) : Type 0 where
+  pub done : List Part
+  pub counted : length done ≡ count
+  pub parts : partsLeft file w ≡ done ++ partsLeft file v
+  pub moved : v .progress .at ≡ w .progress .at + bytesIn done
+  pub onward : w .progress .at + count ≤ v .progress .at
+  pub within : v .progress .at ≤ length file
+  pub kept : v .progress .kept ≡ w .progress .kept + length (keptOf done)
+  pub room : v .room ≡ sets (w .room) (w .progress .kept) (keptOf done)
+  pub drops : v .progress .drops ≡ w .progress .drops + length (dropsOf (w .progress .at) done)
+  pub rows : v .rows ≡ sets (w .rows) (w .progress .drops) (map rowOf (dropsOf (w .progress .at) done))
+  pub long : LongRows (v .table)
+
+-- the same with as many as there are, but at most so many
+pub record IsPassUpTo (file : List ℕ) (most : ℕ) (w v : Standing) : Type 0 where
+  pub count : ℕ
+  pub pass : IsPass file count w v
+  pub few : count ≤ most
+  pub all : v .progress .at < length file → count ≡ most
+
+-- a whole file was done
+pub record IsRun (file : List ℕ) (s : Progress) : Type 0 where
+  pub kept : s .kept ≡ length (mended file)
+  pub drops : s .drops ≡ length (dropped file)
