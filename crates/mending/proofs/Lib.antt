@@ -1,5 +1,4 @@
--- What is claimed of a mended file, and how the code mends.
+-- What is claimed of a mended file, files that are mended by computing, and answers that are no refusal.
 pub mod Claims
 pub mod Checks
-pub mod Passing
-pub mod Rooms
+pub mod Cases

@@ -1,5 +1,4 @@
--- Bringing back a damaged day file (document 02, K7). Read in this order; Passes has how the code does it.
+-- Bringing back a damaged day file (document 02, K7). Read in this order; Judging has how the code judges a piece.
 pub mod Mending
 pub mod Claims
-pub mod Results
-pub mod Passes
+pub mod Judging

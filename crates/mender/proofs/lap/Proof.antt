@@ -1,12 +1,12 @@
--- `mending::lap` meets its contract.
+-- `mender::lap` meets its contract.
 use Prim.Native.Nat.{_+_, _≤_, _<_}
 use native.Mathlib.Omega.{arith}
 use mathlib.Core.Path.{_≡_, refl, sym, ap, _∙_}
 use lib.ListN.{length, take, drop}
-use Rattle.mending.proofs.Passing.{piece-fits, piece-long, between, keeps-piece, drops-piece}
+use Rattle.mender.proofs.Passing.{piece-fits, piece-long, between, keeps-piece, drops-piece}
 use borrow.Author.Needs.{needs}
-use Rattle.mending.proofs.lap.Statement.{statement}
-use Rattle.mending.proofs.lap.Tie as tie
+use Rattle.mender.proofs.lap.Statement.{statement}
+use Rattle.mender.proofs.lap.Tie as tie
 
 -- what is known once the piece is judged
 abbrev Judging : Type 0

@@ -1,4 +1,4 @@
--- How the code mends: a piece at a time.
+-- How the code mends a file: a part after the other.
 use Prim.Native.Nat.{ℕ, _+_, _≤_, _<_}
 use mathlib.Core.Path.{_≡_}
 use mathlib.Core.List.{List, [], _∷_, _++_, map}
@@ -7,35 +7,12 @@ use lib.Seq.{sets}
 use Rattle.snapshot.specs.Lists.{sumOf}
 use Rattle.snapshot.specs.Requests.{blankDay}
 use Rattle.snapshot.specs.declared.Day.{Day}
-use Rattle.admission.specs.Checks.{asOption}
-use Rattle.dayfile.specs.declared.Reading.{Reading}
-use Rattle.dayfile.specs.Reader.{reading}
-use Rattle.dayfile.specs.Pieces.{spanOf, pieces}
-use Rattle.days.specs.Happenings.{Box, outcomeIn}
+use Rattle.dayfile.specs.Pieces.{pieces}
 use Rattle.packed_rows.specs.Rows.{LongRows}
-use Rattle.packed_days.specs.Boxes.{boxIn, IsAfter}
-use Rattle.mending.specs.declared.Judged.{Judged}
-use Rattle.mending.specs.declared.Progress.{Progress}
-use Rattle.mending.specs.Mending.{refusalBy, Part, judged, keptOf, dropsOf, mended, dropped}
-use Rattle.mending.specs.Results.{rowOf}
-
--- ---- one piece
-
--- there is a byte to read, and a table of eight packed records
-pub record Ready (at : ℕ) (bytes : List ℕ) (t : List (List ℕ)) : Type 0 where
-  pub more : at < length bytes
-  pub eight : length t ≡ 8
-  pub long : LongRows t
-
--- what stands at a place was read and run: its day, its size and its refusal, if any
-pub record IsJudged (at : ℕ) (bytes : List ℕ) (b : Box) (j : Judged) (t : List (List ℕ)) (page : List ℕ) : Type 0 where
-  pub found : Reading
-  pub read : found ≡ reading (drop at bytes)
-  pub after : IsAfter found b (j .day) t page
-  pub sized : j .span ≡ spanOf (drop at bytes) found
-  pub checked : asOption (j .check) ≡ refusalBy found (outcomeIn b found)
-
--- ---- several
+use Rattle.packed_days.specs.Boxes.{boxIn}
+use Rattle.mender.specs.declared.Progress.{Progress}
+use Rattle.mending.specs.Mending.{Part, judged, keptOf, dropsOf, mended, dropped}
+use Rattle.mender.specs.Results.{rowOf}
 
 abbrev pub blankProgress : Progress
 blankProgress = record { day = blankDay; at = 0; kept = 0; drops = 0 }

@@ -1,10 +1,10 @@
--- `mending::put` meets its contract.
+-- `mender::put` meets its contract.
 use native.Mathlib.Omega.{arith}
 use mathlib.Core.Path.{sym}
 use lib.Seq.{set-out}
 use borrow.Author.Needs.{needs}
-use Rattle.mending.proofs.put.Statement.{statement}
-use Rattle.mending.proofs.put.Tie as tie
+use Rattle.mender.proofs.put.Statement.{statement}
+use Rattle.mender.proofs.put.Tie as tie
 
 mul-row : tie.Need-mul-row
 mul-row c = search needs

@@ -21,12 +21,12 @@ use Rattle.dayfile.specs.Pieces.{Piece, pieces}
 use Rattle.dayfile.proofs.Pieces.{Sized, Cuts, over, found, broken, pieces-cut}
 use Rattle.days.specs.Happenings.{Box, blankBox, boxAfter, outcomeIn}
 use Rattle.packed_days.proofs.Blank.{blank-words, blank-box}
-use Rattle.mending.specs.declared.Progress.{Progress}
-use Rattle.mending.specs.declared.Mending.the-variants.{Written, Refused}
+use Rattle.mender.specs.declared.Progress.{Progress}
+use Rattle.mender.specs.declared.Mending.the-variants.{Written, Refused}
 use Rattle.mending.specs.Mending.{refusalBy, judged, partsOf, bytesKept, keptOf, Drop, dropBy, dropsOf, mended, dropped}
-use Rattle.mending.specs.Results.{rowOf, lacksRoom, mendingOf, atFront, keptWith, rowsWith}
-use Rattle.mending.specs.Passes.{blankProgress, standing, partsLeft, IsPass, IsPassUpTo, IsRun}
-use Rattle.mending.proofs.Passing.{none-left}
+use Rattle.mender.specs.Results.{rowOf, lacksRoom, mendingOf, atFront, keptWith, rowsWith}
+use Rattle.mender.specs.Passes.{blankProgress, standing, partsLeft, IsPass, IsPassUpTo, IsRun}
+use Rattle.mender.proofs.Passing.{none-left}
 
 -- ---- each byte is kept or dropped, and each drop but the last has two bytes at least
 

@@ -1,11 +1,11 @@
--- `mending::mend` meets its contract.
+-- `mender::mend` meets its contract.
 use mathlib.Core.Path.{_≡_, sym, ap₂, _∙_}
 use borrow.Author.Tests.{not-true, not-false}
-use Rattle.mending.specs.declared.Mending.the-variants.{Written}
-use Rattle.mending.proofs.Rooms.{refused-whole, written-all}
+use Rattle.mender.specs.declared.Mending.the-variants.{Written}
+use Rattle.mender.proofs.Rooms.{refused-whole, written-all}
 use borrow.Author.Needs.{needs}
-use Rattle.mending.proofs.mend.Statement.{statement}
-use Rattle.mending.proofs.mend.Tie as tie
+use Rattle.mender.proofs.mend.Statement.{statement}
+use Rattle.mender.proofs.mend.Tie as tie
 
 has-room-requires : tie.Need-has-room-requires
 has-room-requires c κs = search needs

@@ -1,15 +1,15 @@
--- `mending::run` meets its contract.
+-- `mender::run` meets its contract.
 use Prim.Native.Nat.{_≤_}
 use native.Mathlib.Omega.{arith}
 use mathlib.Core.Path.{_≡_, refl, sym, subst}
 use lib.ListN.{length, replicate}
 use Rattle.packed_rows.specs.Rows.{LongRows}
 use Rattle.packed_days.proofs.Blank.{blank-words, blank-rows}
-use Rattle.mending.specs.Passes.{Steady, standing, IsPassUpTo}
-use Rattle.mending.proofs.Rooms.{whole-run}
+use Rattle.mender.specs.Passes.{Steady, standing, IsPassUpTo}
+use Rattle.mender.proofs.Rooms.{whole-run}
 use borrow.Author.Needs.{needs}
-use Rattle.mending.proofs.run.Statement.{statement}
-use Rattle.mending.proofs.run.Tie as tie
+use Rattle.mender.proofs.run.Statement.{statement}
+use Rattle.mender.proofs.run.Tie as tie
 
 start-requires : tie.Need-start-requires
 start-requires c κs = search needs

@@ -1,4 +1,4 @@
--- `mending::lay` meets its contract.
+-- `mender::lay` meets its contract.
 use Prim.Native.Nat.{suc, _+_, _-_, _≤_}
 use native.Mathlib.Omega.{arith}
 use mathlib.Core.Path.{_≡_, refl, sym, ap, ap₂, _∙_}
@@ -6,8 +6,8 @@ use mathlib.Core.Logic.{⊎-elim}
 use lib.ListN.{length, getD, drop, length-set, drop-of-length-le}
 use lib.Seq.{sets, drop-cons, set-out}
 use borrow.Author.Needs.{needs}
-use Rattle.mending.proofs.lay.Statement.{statement}
-use Rattle.mending.proofs.lay.Tie as tie
+use Rattle.mender.proofs.lay.Statement.{statement}
+use Rattle.mender.proofs.lay.Tie as tie
 
 abbrev Inv-loop : tie.InvT-loop
 Inv-loop bytes room₀ at i₀ room i =

@@ -1,12 +1,12 @@
--- `mending::has_room` meets its contract.
+-- `mender::has_room` meets its contract.
 use native.Mathlib.Omega.{arith}
 use borrow.Author.Tests.{ltb-true}
 use mathlib.Core.Path.{sym, ap}
 use mathlib.Core.Bool.{not}
-use Rattle.mending.proofs.Rooms.{room-sure, bytes-fit, bytes-lack}
+use Rattle.mender.proofs.Rooms.{room-sure, bytes-fit, bytes-lack}
 use borrow.Author.Needs.{needs}
-use Rattle.mending.proofs.has_room.Statement.{statement}
-use Rattle.mending.proofs.has_room.Tie as tie
+use Rattle.mender.proofs.has_room.Statement.{statement}
+use Rattle.mender.proofs.has_room.Tie as tie
 
 returns : tie.Need-returns
 returns c =

@@ -1,14 +1,14 @@
--- `mending::pass` meets its contract.
+-- `mender::pass` meets its contract.
 use Prim.Native.Nat.{_-_, _≤_}
 use native.Mathlib.Omega.{arith}
 use mathlib.Core.Path.{_≡_, refl, _∙_}
 use lib.ListN.{length}
 use borrow.Author.Needs.{needs}
 use borrow.Author.Tests.{ltb-true, ltb-false}
-use Rattle.mending.specs.Passes.{Steady, standing, IsPass}
-use Rattle.mending.proofs.Passing.{pass-none, pass-then, pass-steady}
-use Rattle.mending.proofs.pass.Statement.{statement}
-use Rattle.mending.proofs.pass.Tie as tie
+use Rattle.mender.specs.Passes.{Steady, standing, IsPass}
+use Rattle.mender.proofs.Passing.{pass-none, pass-then, pass-steady}
+use Rattle.mender.proofs.pass.Statement.{statement}
+use Rattle.mender.proofs.pass.Tie as tie
 
 abbrev Inv-loop : tie.InvT-loop
 Inv-loop most bytes t₀ page₀ room₀ rows₀ p₀ i₀ t page room rows p i =

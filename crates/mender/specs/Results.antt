@@ -5,9 +5,9 @@ use mathlib.Core.List.{List, [], _∷_, _++_, map}
 use lib.Dec.{ltb}
 use lib.ListN.{length, drop}
 use Rattle.snapshot.specs.declared.Refusal.the-variants.{RoomShort}
-use Rattle.mending.specs.declared.Mending.{Mending}
-use Rattle.mending.specs.declared.Mending.the-variants.{Written, Refused}
+use Rattle.mender.specs.declared.Mending.{Mending}
+use Rattle.mender.specs.declared.Mending.the-variants.{Written, Refused}
 use Rattle.mending.specs.Mending.{Drop, mended, dropped}
 
 -- a drop as it lies in a row: "first byte (from 0), byte count, refusal number"
 abbrev pub rowOf : Drop → List ℕ

@@ -21,11 +21,12 @@ use Rattle.dayfile.proofs.Pieces.{span-fits, first-piece}
 use Rattle.days.specs.Happenings.{Box}
 use Rattle.packed_rows.specs.Rows.{LongRows}
 use Rattle.packed_days.specs.Boxes.{boxIn}
 use Rattle.mending.specs.declared.Judged.{Judged}
-use Rattle.mending.specs.declared.Progress.{Progress}
+use Rattle.mender.specs.declared.Progress.{Progress}
+use Rattle.mending.specs.Judging.{IsJudged}
 use Rattle.mending.specs.Mending.{Part, judged, bytesKept, keptOf, dropBy, dropsOf}
-use Rattle.mending.specs.Results.{rowOf}
-use Rattle.mending.specs.Passes.{IsJudged, Steady, Standing, standing, partsLeft, bytesIn, IsPass}
+use Rattle.mender.specs.Results.{rowOf}
+use Rattle.mender.specs.Passes.{Steady, Standing, standing, partsLeft, bytesIn, IsPass}
 
 -- ---- lists of parts
 

@@ -1,7 +1,7 @@
--- `mending::start` meets its contract.
+-- `mender::start` meets its contract.
 use borrow.Author.Needs.{needs}
-use Rattle.mending.proofs.start.Statement.{statement}
-use Rattle.mending.proofs.start.Tie as tie
+use Rattle.mender.proofs.start.Statement.{statement}
+use Rattle.mender.proofs.start.Tie as tie
 
 blank-requires : tie.Need-blank-requires
 blank-requires c κs = search needs

@@ -1,0 +1,3 @@
+-- How the code mends.
+pub mod Passing
+pub mod Rooms
