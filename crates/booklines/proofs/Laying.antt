@@ -39,19 +39,6 @@ module _ {line : Line} (is : BookLine line) (ws out : List ℕ) (at : ℕ) where
       let short = book-line-short is ws few in
       (record { buffer = lies ∙ laid .1; end = end }, omega (arith, end, short))
 
--- where there is nothing to lay, the buffer stays as it is
-pub none-laid : (out : List ℕ) {text : List ℕ} → text ≡ [] → Laid out 0 text out 0
-none-laid out e = laid-as (sym e) (record { buffer = sym (laid-nothing out 0); end = refl })
-
--- one place more
-pub places-more : (n : ℕ) (ps : List (List ℕ)) (i : ℕ) → i < length ps →
-    placesText n (take i ps) ++ placeText n (getD ps i []) ≡ placesText n (take (suc i) ps)
-places-more n [] i l = absurd (not-suc-le-zero l)
-places-more n (p ∷ ps) zero l = sym (append-nil (placeText n p))
-places-more n (p ∷ ps) (suc i) l =
-    append-assoc (placeText n p) (placesText n (take i ps)) (placeText n (getD ps i []))
-    ∙ ap (λ t. placeText n p ++ t) (places-more n ps i (omega arith))
-
 -- what is tested before anything is laid
 module _ (count n places room : ℕ) where
   pub room-true : hasRoom count n places room ≡ true →

@@ -4,6 +4,7 @@ use mathlib.Core.Bool.{Bool, cond, _&&_}
 use mathlib.Core.List.{List, [], _∷_, _++_}
 use lib.Dec.{eqb, leb}
 use lib.ListN.{length, getD, take, drop}
+use Rattle.texts.specs.Laying.{eachText}
 use Rattle.daytext.specs.declared.Line.{Line}
 use Rattle.daytext.specs.declared.Line.the-variants.{Update, BookPage, End}
 use Rattle.daytext.specs.Lines.{textOf}
@@ -19,8 +20,7 @@ placeText n p = textOf (placeLine p) (take n (drop 3 p)) []
 
 -- the text of places, one line after the other
 abbrev pub placesText : ℕ → List (List ℕ) → List ℕ
-placesText n [] = []
-placesText n (p ∷ ps) = placeText n p ++ placesText n ps
+placesText n ps = eachText (placeText n) ps
 
 -- the bytes of a book's longest line, a page with eight words
 abbrev pub longestPlace : ℕ

@@ -1,3 +1,2 @@
--- The numerals and the texts of the line.
-pub mod Digits
+-- The texts of the line.
 pub mod Texts

@@ -7,30 +7,8 @@ use fractions::Fraction;
 ghost use Prim.Native.Nat.{_+_, _≤_};
 ghost use mathlib.Core.List.{_++_};
 ghost use lib.ListN.{length};
-ghost use Rattle.texts.specs.Decimal.{longDecimal};
 ghost use Rattle.texts.specs.Laying.{Laid};
 ghost use Rattle.figurelines.specs.FigureText.{fractionText, figuresText, laidReckoning};
-
-// Lays a number in decimal.
-fn number(n: u64, out: &mut [u8], at: usize) -> usize
-    requires { ⌜ at + 20 ≤ length (now out) ⌝ }
-    ensures { λ r. ⌜ Laid (now (out .entry)) at (longDecimal n) (now (out .exit)) r ⌝ }
-    ensures { λ r. ⌜ r ≤ at + 20 ⌝ }
-{
-    let mut digits = [0u8; 20];
-    let k = io::decimal(n, &mut digits);
-    texts::bytes(&digits[..k], out, at)
-}
-
-// Lays a text and a number after it.
-fn field(text: &[u8], n: u64, out: &mut [u8], at: usize) -> usize
-    requires { ⌜ at + length (now text) + 20 ≤ length (now out) ⌝ }
-    ensures { λ r. ⌜ Laid (now (out .entry)) at (now (text .entry) ++ longDecimal n) (now (out .exit)) r ⌝ }
-    ensures { λ r. ⌜ r ≤ at + length (now (text .entry)) + 20 ⌝ }
-{
-    let a = texts::bytes(text, out, at);
-    number(n, out, a)
-}
 
 // Lays a text and a fraction after it.
 fn fraction(text: &[u8], f: Fraction, out: &mut [u8], at: usize) -> usize
@@ -38,8 +16,8 @@ fn fraction(text: &[u8], f: Fraction, out: &mut [u8], at: usize) -> usize
     ensures { λ r. ⌜ Laid (now (out .entry)) at (now (text .entry) ++ fractionText f) (now (out .exit)) r ⌝ }
     ensures { λ r. ⌜ r ≤ at + length (now (text .entry)) + 41 ⌝ }
 {
-    let a = field(text, f.numerator, out, at);
-    field(b"/", f.denominator, out, a)
+    let a = longtexts::field(text, f.numerator, out, at);
+    longtexts::field(b"/", f.denominator, out, a)
 }
 
 // Lays the line of figures for a desk count.
@@ -49,11 +27,11 @@ fn lay_figures(desks: u32, f: Figures, out: &mut [u8]) -> usize
 {
     let mean = f.mean;
     let borrowed = f.borrowed;
-    let a = field(b"desks ", desks as u64, out, 0);
-    let b = field(b" pages ", f.pages, out, a);
+    let a = longtexts::field(b"desks ", desks as u64, out, 0);
+    let b = longtexts::field(b" pages ", f.pages, out, a);
     let c = fraction(b" mean ", mean, out, b);
     let d = fraction(b" borrowed ", borrowed, out, c);
-    let e = field(b" largest ", f.largest as u64, out, d);
+    let e = longtexts::field(b" largest ", f.largest as u64, out, d);
     texts::byte(b'\n', out, e)
 }
 

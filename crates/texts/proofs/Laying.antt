@@ -1,12 +1,12 @@
 -- Laws of laying text into a buffer.
-use Prim.Native.Nat.{ℕ, suc, _+_, _≤_, _<_}
-use native.Mathlib.Nat.{add-zero}
+use Prim.Native.Nat.{ℕ, zero, suc, _+_, _≤_, _<_}
+use native.Mathlib.Nat.{add-zero, not-suc-le-zero}
 use native.Mathlib.Omega.{arith}
-use mathlib.Core.Path.{_≡_, sym, ap, ap₂, _∙_}
+use mathlib.Core.Path.{_≡_, refl, sym, ap, ap₂, _∙_}
 use mathlib.Core.List.{List, [], _∷_, _++_, append-assoc, append-nil}
-use lib.ListN.{length, take, drop, set, length-append, take-append-drop}
+use lib.ListN.{length, getD, take, drop, set, length-append, take-append-drop}
 use lib.Seq.{length-take-le, take-at, drop-at, drop-drop, set-split, take-set-le}
-use Rattle.texts.specs.Laying.{withText, Laid}
+use Rattle.texts.specs.Laying.{withText, Laid, eachText}
 
 module _ (out : List ℕ) (at : ℕ) where
   length-front : (s : List ℕ) → at ≤ length out → length (take at out ++ s) ≡ at + length s
@@ -76,3 +76,17 @@ laid-start {out} {text} l =
     let long = ap length (l .buffer) ∙ length-append text (drop (0 + length text) out) in
     let end = l .end in
     (ap₂ take (l .end) (l .buffer) ∙ take-laid out 0 text (omega arith), omega (arith, long, end))
+
+-- where there is nothing to lay, the buffer stays as it is
+pub none-laid : (out : List ℕ) {text : List ℕ} → text ≡ [] → Laid out 0 text out 0
+none-laid out e = laid-as (sym e) (record { buffer = sym (laid-nothing out 0); end = refl })
+
+-- ---- texts one after the other
+
+module _ {A : Type 0} (f : A → List ℕ) where
+  -- one more
+  pub each-more : (xs : List A) (i : ℕ) (z : A) → i < length xs → eachText f (take i xs) ++ f (getD xs i z) ≡ eachText f (take (suc i) xs)
+  each-more [] i z l = absurd (not-suc-le-zero l)
+  each-more (x ∷ xs) zero z l = sym (append-nil (f x))
+  each-more (x ∷ xs) (suc i) z l =
+      append-assoc (f x) (eachText f (take i xs)) (f (getD xs i z)) ∙ ap (λ t. f x ++ t) (each-more xs i z (omega arith))

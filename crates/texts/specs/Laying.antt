@@ -18,3 +18,8 @@ pub record Laid (out : List ℕ) (at : ℕ) (text after : List ℕ) (r : ℕ) : 
 abbrev pub spaced : List (List ℕ) → List ℕ
 spaced [] = []
 spaced (p ∷ ps) = ascii " " ++ (p ++ spaced ps)
+
+-- the text of each, one after the other
+abbrev pub eachText : {A : Type 0} → (A → List ℕ) → List A → List ℕ
+eachText f [] = []
+eachText f (x ∷ xs) = f x ++ eachText f xs

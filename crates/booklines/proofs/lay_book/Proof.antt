@@ -4,9 +4,9 @@ use mathlib.Core.Path.{sym, _∙_}
 use mathlib.Core.List.{[]}
 use borrow.Author.Needs.{needs}
 use borrow.Author.Tests.{not-true, not-false}
-use Rattle.texts.proofs.Laying.{in-turn, laid-as}
+use Rattle.texts.proofs.Laying.{in-turn, laid-as, none-laid}
 use Rattle.daytext.proofs.Lengths.{end}
-use Rattle.booklines.proofs.Laying.{line-laid, none-laid, room-true, book-laid, book-unlaid}
+use Rattle.booklines.proofs.Laying.{line-laid, room-true, book-laid, book-unlaid}
 use Rattle.booklines.proofs.lay_book.Statement.{statement}
 use Rattle.booklines.proofs.lay_book.Tie as tie
 

@@ -3,12 +3,12 @@ use Prim.Native.Nat.{_-_, _*_, _≤_}
 use native.Mathlib.Omega.{arith}
 use native.Mathlib.Numerals.{add-one}
 use mathlib.Core.Path.{_≡_, refl, ap}
+use mathlib.Core.List.{[]}
 use lib.ListN.{length, take}
 use borrow.Author.Needs.{needs}
 use Rattle.texts.specs.Laying.{Laid}
-use Rattle.texts.proofs.Laying.{in-turn, laid-as}
-use Rattle.booklines.specs.PlaceText.{placesText, longestPlace}
-use Rattle.booklines.proofs.Laying.{none-laid, places-more}
+use Rattle.texts.proofs.Laying.{in-turn, laid-as, none-laid, each-more}
+use Rattle.booklines.specs.PlaceText.{placeText, placesText, longestPlace}
 use Rattle.booklines.proofs.lay_places.Statement.{statement}
 use Rattle.booklines.proofs.lay_places.Tie as tie
 
@@ -47,7 +47,7 @@ loop-again c =
       omega arith,
       omega arith,
       omega arith,
-      rw (add-one i, ← (places-more (a .n) (a .book .now) i (omega arith)))
+      rw (add-one i, ← (each-more (placeText (a .n)) (a .book .now) i [] (omega arith)))
           (in-turn (omega arith) (at-loop .loop .inv .3) (at-line .lay-place .ensures .0)),
     )
 

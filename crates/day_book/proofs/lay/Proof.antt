@@ -1,7 +1,6 @@
 -- `day_book::lay` meets its contract.
 use mathlib.Core.Path.{sym, _∙_}
-use Rattle.texts.proofs.Laying.{laid-as}
-use Rattle.booklines.proofs.Laying.{none-laid}
+use Rattle.texts.proofs.Laying.{laid-as, none-laid}
 use Rattle.day_book.proofs.Inputs.{written-laid, refused-unlaid}
 use borrow.Author.Needs.{needs}
 use Rattle.day_book.proofs.lay.Statement.{statement}

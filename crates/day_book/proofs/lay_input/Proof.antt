@@ -4,8 +4,7 @@ use mathlib.Core.Path.{sym, ap, _∙_}
 use lib.ListN.{length}
 use lib.Seq.{length-take-le}
 use borrow.Author.Tests.{not-true, not-false}
-use Rattle.texts.proofs.Laying.{laid-as}
-use Rattle.booklines.proofs.Laying.{none-laid}
+use Rattle.texts.proofs.Laying.{laid-as, none-laid}
 use Rattle.streams.specs.Input.{incoming}
 use Rattle.streams.proofs.Whole.{front-left}
 use Rattle.day_book.specs.Runs.{bookOf}

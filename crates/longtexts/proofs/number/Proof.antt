@@ -1,4 +1,4 @@
--- `figurelines::number` meets its contract.
+-- `longtexts::number` meets its contract.
 use Prim.Native.Nat.{_<_}
 use native.Mathlib.Omega.{arith}
 use mathlib.Core.Path.{_≡_, ap, _∙_}
@@ -6,10 +6,10 @@ use lib.ListN.{length, take}
 use Rattle.texts.specs.Decimal.{longDecimal}
 use Rattle.texts.proofs.Numerals.{long-short}
 use Rattle.texts.proofs.Laying.{laid-as}
-use Rattle.figurelines.proofs.Digits.{fewest-is}
+use Rattle.longtexts.proofs.Digits.{fewest-is}
 use borrow.Author.Needs.{needs}
-use Rattle.figurelines.proofs.number.Statement.{statement}
-use Rattle.figurelines.proofs.number.Tie as tie
+use Rattle.longtexts.proofs.number.Statement.{statement}
+use Rattle.longtexts.proofs.number.Tie as tie
 
 -- the bytes that are laid are the numeral
 text-is : (c : tie.After-decimal) → take (c .decimal .result) (c .decimal .last .1 .0) ≡ longDecimal (c .before .before .before .args .n)

@@ -1,9 +1,9 @@
--- `figurelines::field` meets its contract.
+-- `longtexts::field` meets its contract.
 use native.Mathlib.Omega.{arith}
 use Rattle.texts.proofs.Laying.{in-turn}
 use borrow.Author.Needs.{needs}
-use Rattle.figurelines.proofs.field.Statement.{statement}
-use Rattle.figurelines.proofs.field.Tie as tie
+use Rattle.longtexts.proofs.field.Statement.{statement}
+use Rattle.longtexts.proofs.field.Tie as tie
 
 bytes-requires : tie.Need-bytes-requires
 bytes-requires c κs = search needs

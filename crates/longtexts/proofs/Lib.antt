@@ -1,0 +1,2 @@
+-- Numerals of up to twenty digits.
+pub mod Digits

@@ -1,0 +1,2 @@
+-- The lines as they are laid, and some computed.
+pub mod Texts

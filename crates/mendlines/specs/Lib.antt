@@ -1,0 +1,2 @@
+-- The lines of what was dropped.
+pub mod DropText
