@@ -1,4 +1,4 @@
--- `streams::output::write_out` meets its contract: each write takes the first of what is left, or nothing, or fails.
+-- `streams::output::write_to` meets its contract: each write takes the first of what is left, or nothing, or fails.
 use Prim.Native.Nat.{_≤_}
 use native.Mathlib.Omega.{arith}
 use mathlib.Core.Path.{refl, sym, subst}
@@ -10,14 +10,14 @@ use Rattle.streams.specs.System.{AtMost}
 use Rattle.streams.proofs.Transfers.{Leaves, leaves-less, leaves-same, sent-not, sent-all}
 use borrow.Author.Tests.{ltb-true}
 use borrow.Author.Needs.{needs}
-use Rattle.streams.proofs.output.write_out.Statement.{statement}
-use Rattle.streams.proofs.output.write_out.Tie as tie
+use Rattle.streams.proofs.output.write_to.Statement.{statement}
+use Rattle.streams.proofs.output.write_to.Tie as tie
 
 abbrev Inv-loop : tie.InvT-loop
-Inv-loop out n what done₀ writes₀ done writes = (done ≤ n) × Leaves (take n out) done
+Inv-loop file out n what done₀ writes₀ done writes = (done ≤ n) × Leaves (take n out) done
 
 abbrev μ-loop : tie.MeasureT-loop
-μ-loop out n what done₀ writes₀ done writes = writes
+μ-loop file out n what done₀ writes₀ done writes = writes
 
 loop-holds : tie.Need-loop-holds Inv-loop μ-loop
 loop-holds c = (omega arith, ([], λ us. refl))
@@ -72,8 +72,8 @@ returns-2 c =
     let l = c .before .loop in
     sent-all (take (a .n) (a .out .now)) (l .done) (l .inv .1) (a .n) (length-take-le _ _ (start .pre)) (l .inv .0)
 
-pub write-out-spec : {M : Type 1} → statement M
-write-out-spec =
+pub write-to-spec : {M : Type 1} → statement M
+write-to-spec =
     tie.close
     (tie.spec
     Inv-loop
