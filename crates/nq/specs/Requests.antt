@@ -8,7 +8,7 @@ use Rattle.numbers.specs.Replies.{runNumbers}
 
 -- the version of the functions, their parameters, and the layout of records and replies
 abbrev pub version : ℕ
-version = 3
+version = 4
 
 -- the reply to a run with result r
 abbrev pub runReply : RunResult (State (List ℕ)) (List ℕ) → ReplyNumbers

@@ -1,14 +1,17 @@
-// The register by numbers, for programs in C and Rust: a table of packed records, a request and its reply, and the reader of day
-// files. bindings/c/nelvaquist.h says what a caller has to hold to.
+// The register by numbers, for programs in C and Rust: a table of packed records, a request and its reply, and the reader and the mender
+// of day files. bindings/c/nelvaquist.h says what a caller has to hold to.
+use numbers::MendingNumbers;
 use numbers::RecordNumbers;
 use numbers::ReplyNumbers;
 use snapshot::Day;
 ghost use mathlib.Core.Path.{_≡_};
 ghost use mathlib.Core.List.{[]};
+ghost use lib.ListN.{length};
 ghost use Rattle.snapshot.specs.declared.Request.the-variants.{Open, Update, Scan, Turn};
 ghost use Rattle.dayfile.specs.Reader.{reading, readerReply};
 ghost use Rattle.packed_table.specs.Tables.{tableAfter, steppedIn};
-ghost use Rattle.numbers.specs.Replies.{dayWith, recordNumbers};
+ghost use Rattle.numbers.specs.Replies.{dayWith, recordNumbers, mendingNumbers};
+ghost use Rattle.mender.specs.Results.{mendingOf, keptWith, rowsWith};
 ghost use Rattle.packed_runs.specs.Runs.{runIn};
 ghost use Rattle.packed_requests.specs.Requests.{replyTo, replyIn, tableIn, pageIn};
 ghost use Rattle.nq.specs.Requests.{version, runReply};
@@ -130,10 +133,21 @@ pub extern "C" fn nq_read(bytes: &[u8]) -> RecordNumbers
     numbers::record_of(dayfile::read(bytes))
 }
 
+// Mends a day file: what is kept of it goes into a lent room, and a row for each drop into another.
+#[no_mangle]
+pub extern "C" fn nq_mend(bytes: &[u8], room: &mut [u8], rows: &mut [[u64; 3]]) -> MendingNumbers
+    ensures { λ r. ⌜ r ≡ mendingNumbers
+        (mendingOf (now (bytes .entry)) (length (now (room .entry))) (length (now (rows .entry)))) ⌝ }
+    ensures { λ _. ⌜ now (room .exit) ≡ keptWith (now (bytes .entry)) (now (room .entry)) (length (now (rows .entry))) ⌝ }
+    ensures { λ _. ⌜ now (rows .exit) ≡ rowsWith (now (bytes .entry)) (length (now (room .entry))) (now (rows .entry)) ⌝ }
+{
+    numbers::mending_of(mender::mend(bytes, room, rows))
+}
+
 // The version of what crosses: the header and the library of a program are of one.
 #[no_mangle]
 pub extern "C" fn nq_version() -> u32
     ensures { λ v. ⌜ v ≡ version ⌝ }
 {
-    3
+    4
 }
