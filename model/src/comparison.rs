@@ -5,6 +5,8 @@
 mod files;
 mod streams;
 
+pub use files::SMALL;
+
 use crate::counts::Reached;
 use crate::program::Program;
 use crate::text;
@@ -35,13 +37,32 @@ pub struct Comparison<M> {
     met: files::Met,
 }
 
-/// Days that are made from seeds.
+/// Files that are made from seeds.
 pub struct Drawn {
+    /// What they are called.
     pub name: &'static str,
     pub make: fn(u64) -> Vec<u8>,
     /// How many have the seeds 1, 2 and so on, and how many the next ones from a fresh seed.
     pub fixed: u64,
     pub fresh: u64,
+}
+
+impl Drawn {
+    /// Checks each of them, with its name.
+    pub fn each(&self, seed: u64, mut check: impl FnMut(&str, &[u8]) -> Checked) -> Checked {
+        let Drawn { name, make, fixed, fresh } = *self;
+        for day in 1..=fixed {
+            check(&format!("{name}, of seed {day}"), &make(day))?;
+        }
+        println!("{name} of fixed seeds: {fixed} alike");
+        println!("fresh seed {seed}");
+        for day in 0..fresh {
+            let file = make(seed.wrapping_add(day));
+            check(&format!("fresh {name}, {day} of --seed {seed}"), &file)?;
+        }
+        println!("{name} of the fresh seed: {fresh} alike");
+        Ok(())
+    }
 }
 
 /// Makes a comparison with the program that the command line names. `run` gets the seed for the fresh
@@ -102,24 +123,14 @@ impl<M: Model> Comparison<M> {
     }
 
     pub fn drawn(&mut self, days: &Drawn, seed: u64) -> Checked {
-        let Drawn { name, make, fixed, fresh } = *days;
-        for day in 1..=fixed {
-            self.check(&format!("the {name} day of seed {day}"), &make(day))?;
-        }
-        println!("{name} days of fixed seeds: {fixed} alike");
-        println!("fresh seed {seed}");
-        for day in 0..fresh {
-            let file = make(seed.wrapping_add(day));
-            self.check(&format!("fresh {name} day {day} of --seed {seed}"), &file)?;
-        }
-        println!("{name} days of the fresh seed: {fresh} alike");
-        Ok(())
+        days.each(seed, |name, file| self.check(name, file))
     }
 
     /// Compares the two printouts of one day file.
     pub fn check(&mut self, name: &str, file: &[u8]) -> Checked {
-        let wanted = self.model.watched(file).map_err(|why| self.about(name, file, why))?;
-        let printed = self.program.printed(file).map_err(|why| self.about(name, file, why))?;
+        let about = |why| about(&self.program, name, file, why);
+        let wanted = self.model.watched(file).map_err(about)?;
+        let printed = self.program.printed(file).map_err(about)?;
         self.alike(name, file, wanted.as_bytes(), &printed)
     }
 
@@ -128,26 +139,31 @@ impl<M: Model> Comparison<M> {
             self.days += 1;
             return Ok(());
         }
-        Err(self.about(name, file, difference(wanted, printed)).into())
+        Err(about(&self.program, name, file, difference(wanted, printed)).into())
     }
 
-    /// What is wrong with a day, which is kept for a look.
-    fn about(&self, name: &str, file: &[u8], why: impl ToString) -> String {
-        let kept = self.program.keep(file);
-        let lines = text::to_text(file);
-        let lines = if lines.len() < 4_000 { lines } else { String::new() };
-        format!("{name}: {}\nday file: {kept}\n{lines}", why.to_string())
-    }
-
-    /// Prints what was reached, and requires all of it.
+    /// Prints what was reached, with what the files have met, and requires all of it.
     pub fn require(&self, mut reached: Reached) -> Checked {
         self.met.add_to(&mut reached);
-        print!("{reached}");
-        match reached.missing().as_slice() {
-            [] => Ok(()),
-            missing => Err(format!("not reached: {}", missing.join("; ")).into()),
-        }
+        require(&reached)
     }
+}
+
+/// Prints what was reached, and requires all of it.
+pub fn require(reached: &Reached) -> Checked {
+    print!("{reached}");
+    match reached.missing().as_slice() {
+        [] => Ok(()),
+        missing => Err(format!("not reached: {}", missing.join("; ")).into()),
+    }
+}
+
+/// What is wrong with a day, which is kept for a look.
+pub(crate) fn about(program: &Program, name: &str, file: &[u8], why: impl ToString) -> String {
+    let kept = program.keep(file);
+    let lines = text::to_text(file);
+    let lines = if lines.len() < 4_000 { lines } else { String::new() };
+    format!("{name}: {}\nday file: {kept}\n{lines}", why.to_string())
 }
 
 /// The bytes of lines that are known to be good.
@@ -156,7 +172,7 @@ pub fn bytes(lines: &str) -> Vec<u8> {
 }
 
 /// The first line in which two printouts differ.
-fn difference(wanted: &[u8], printed: &[u8]) -> String {
+pub(crate) fn difference(wanted: &[u8], printed: &[u8]) -> String {
     let wanted: Vec<&[u8]> = wanted.split(|&byte| byte == b'\n').collect();
     let printed: Vec<&[u8]> = printed.split(|&byte| byte == b'\n').collect();
     let same = wanted.iter().zip(&printed).take_while(|(a, b)| a == b).count();

@@ -2,11 +2,16 @@
 //! schedule knows which desks are busy and can place a write between two reads.
 
 mod closing;
+mod damaged;
 mod full;
 mod lending;
 mod quarter;
 
 pub use closing::{closing_day, last_day};
+pub use damaged::{
+    damage_places, damaged, damaged_day, edges, noise, sound_day, Damage, Damaged, Spot, Third,
+    DAMAGES, SPOTS, THIRDS,
+};
 pub use full::{between_refused, full_day, long_file, pages_day, refused_records};
 pub use lending::{latest_day, lending_day};
 pub use quarter::{pages_of_one, quarter};

@@ -1,8 +1,9 @@
 //! A model of the register, written from documents 01 and 02 and Figure 3 alone, in the plainest way
 //! (`register`, `dayfile`, `runner`, `runs` for turns that are given at once, and `closing` for the
 //! end of the day), of the day's book, from document 02 and Figure 1 (`book`, `claims`,
-//! `automaton`), and of the figures for the quarter, from document 02 (`figures`). It is the other
-//! side of the comparison with the proved register.
+//! `automaton`), and, from document 02, of the figures for the quarter (`figures`) and of the mending
+//! of damaged day files (`mending`, `mend_claims`, and `mend_examples`, worked out by hand). It is the
+//! other side of the comparison with the proved register.
 //! `baseline` is a fast day runner, which is held to the model and measures speed alone.
 
 pub mod automaton;
@@ -17,6 +18,11 @@ pub mod dayfile;
 pub mod days;
 pub mod figure_counts;
 pub mod figures;
+pub mod mend_claims;
+pub mod mend_counts;
+pub mod mend_examples;
+pub mod mending;
+pub mod mends;
 pub mod papers;
 pub mod program;
 pub mod quarters;

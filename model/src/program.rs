@@ -1,5 +1,5 @@
-//! Another day runner, or maker of books, run as a program: what it prints for a day file, and how it
-//! behaves when input is slow or long, or when reading or writing fails.
+//! Another day runner, maker of books or mender, run as a program: what it prints for a day file, and
+//! how it behaves when input is slow or long, or when reading or writing fails.
 
 use crate::dayfile::{self, Record};
 use std::error::Error;
@@ -14,7 +14,7 @@ use std::time::Duration;
 /// Linux's O_NONBLOCK.
 const NO_WAIT: i32 = 0o4000;
 
-/// What a run printed, and its message.
+/// What a run printed, and what it said on standard error.
 pub struct Ended {
     pub printed: Vec<u8>,
     pub message: String,
@@ -44,13 +44,16 @@ impl Program {
     }
 
     pub fn printed(&self, file: &[u8]) -> Result<Vec<u8>, Box<dyn Error>> {
-        let ended = self.command().stdin(self.lay(file)?).output();
-        printout(ended.map_err(|error| format!("{}: {error}", self.path.display()))?)
+        printout(self.run(self.command().stdin(self.lay(file)?))?)
     }
 
-    /// How it ends on a file, with its message.
-    pub fn refused(&self, file: &[u8]) -> Result<Ended, Box<dyn Error>> {
-        ended(self.command().stdin(self.lay(file)?).stderr(Stdio::piped()).output()?)
+    /// What it prints, and what it says.
+    pub fn both(&self, file: &[u8]) -> Result<Ended, Box<dyn Error>> {
+        ended(self.run(self.command().stdin(self.lay(file)?).stderr(Stdio::piped()))?)
+    }
+
+    fn run(&self, command: &mut Command) -> Result<Output, String> {
+        command.output().map_err(|error| format!("{}: {error}", self.path.display()))
     }
 
     /// What it prints when the file arrives in pieces of `count` bytes.
@@ -58,23 +61,20 @@ impl Program {
         printout(slowly(&mut self.command(), file, count)?)
     }
 
-    /// How it ends then, with its message.
-    pub fn refused_slowly(&self, file: &[u8], count: usize) -> Result<Ended, Box<dyn Error>> {
+    /// What it prints then, and what it says.
+    pub fn both_slowly(&self, file: &[u8], count: usize) -> Result<Ended, Box<dyn Error>> {
         ended(slowly(self.command().stderr(Stdio::piped()), file, count)?)
     }
 
     /// What it prints when it is stopped in the middle of a write and goes on: Linux then ends the
     /// write with what it has taken. The printout is longer than a pipe holds.
     pub fn printed_stopped(&self, file: &[u8]) -> Result<Vec<u8>, Box<dyn Error>> {
-        let child = self.command().stdin(self.lay(file)?).spawn()?;
-        // By now it waits for the pipe to be emptied.
-        thread::sleep(Duration::from_millis(200));
-        for signal in ["STOP", "CONT"] {
-            let script = format!("kill -{signal} {}", child.id());
-            Command::new("sh").args(["-c", &script]).status()?;
-            thread::sleep(Duration::from_millis(20));
-        }
-        printout(child.wait_with_output()?)
+        printout(stopped(self.command().stdin(self.lay(file)?))?)
+    }
+
+    /// What it prints then, and what it says.
+    pub fn both_stopped(&self, file: &[u8]) -> Result<Ended, Box<dyn Error>> {
+        ended(stopped(self.command().stdin(self.lay(file)?).stderr(Stdio::piped()))?)
     }
 
     /// How it ends when the first read fails: on a directory, and on a descriptor that is closed.
@@ -116,6 +116,23 @@ impl Program {
         let mut stopped = ended(stopped)?;
         take.read_to_end(&mut stopped.printed)?;
         Ok(stopped)
+    }
+
+    /// What it prints when standard error cannot be written, or only in part: on a descriptor that is
+    /// closed, into a pipe that must not wait until it is emptied, and on a full device, if there is
+    /// one. Of what it says there is what the pipe took.
+    pub fn unsaid(&self, file: &[u8]) -> Result<Vec<Ended>, Box<dyn Error>> {
+        let mut ways = vec![self.shell("exec \"$0\" 2>&-").stdin(self.lay(file)?).output()?];
+        let (give, mut take) = self.pipe()?;
+        let mut command = self.command();
+        let mut cut = command.stdin(self.lay(file)?).stderr(give).output()?;
+        drop(command);
+        take.read_to_end(&mut cut.stderr)?;
+        ways.push(cut);
+        if let Ok(full) = File::create("/dev/full") {
+            ways.push(self.command().stdin(self.lay(file)?).stderr(full).output()?);
+        }
+        ways.into_iter().map(ended).collect()
     }
 
     /// A shell that starts it in its own way.
@@ -200,15 +217,31 @@ pub(crate) fn slowly(
     })
 }
 
+/// Stops a run and lets it go on.
+fn stopped(command: &mut Command) -> Result<Output, Box<dyn Error>> {
+    let child = command.spawn()?;
+    // By now it waits for the pipe to be emptied.
+    thread::sleep(Duration::from_millis(200));
+    for signal in ["STOP", "CONT"] {
+        let script = format!("kill -{signal} {}", child.id());
+        Command::new("sh").args(["-c", &script]).status()?;
+        thread::sleep(Duration::from_millis(20));
+    }
+    Ok(child.wait_with_output()?)
+}
+
 fn printout(output: Output) -> Result<Vec<u8>, Box<dyn Error>> {
     Ok(ended(output)?.printed)
 }
 
-fn ended(output: Output) -> Result<Ended, Box<dyn Error>> {
-    let message = String::from_utf8_lossy(&output.stderr).into_owned();
+/// How a run ended. Its exit status is always 0.
+pub(crate) fn ended(output: Output) -> Result<Ended, Box<dyn Error>> {
     match output.status.code() {
-        Some(_) => Ok(Ended { printed: output.stdout, message }),
-        None => Err(format!("the program was ended by {}", output.status).into()),
+        Some(0) => {
+            let message = String::from_utf8_lossy(&output.stderr).into_owned();
+            Ok(Ended { printed: output.stdout, message })
+        }
+        _ => Err(format!("the program was ended by {}", output.status).into()),
     }
 }
 

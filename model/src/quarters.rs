@@ -9,14 +9,14 @@ use crate::comparison::Checked;
 use crate::days;
 use crate::figure_counts::FigureCounts;
 use crate::figures::{figures, line, number, Answer, DayPages};
-use crate::program::Ended;
+use crate::program::{ended, Ended};
 use crate::random::Random;
 use crate::text;
 use std::error::Error;
 use std::ffi::OsStr;
 use std::fs;
 use std::path::PathBuf;
-use std::process::{Command, Output, Stdio};
+use std::process::{Command, Stdio};
 
 /// A day file with the name by which the program is given it.
 #[derive(Clone)]
@@ -181,17 +181,6 @@ fn says(line: &str, (name, number): Complaint) -> bool {
     let rest = format!("{before} {after}");
     let mut numbers = rest.split(|letter: char| !letter.is_ascii_digit());
     numbers.any(|digits| digits == number.to_string())
-}
-
-/// How a run ended. Its exit status is always 0.
-fn ended(output: Output) -> Result<Ended, Box<dyn Error>> {
-    match output.status.code() {
-        Some(0) => {
-            let message = String::from_utf8_lossy(&output.stderr).into_owned();
-            Ok(Ended { printed: output.stdout, message })
-        }
-        _ => Err(format!("the program was ended by {}", output.status).into()),
-    }
 }
 
 /// What is wrong with a quarter, with the lines of its short files.

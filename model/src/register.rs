@@ -41,6 +41,8 @@ pub enum Refusal {
     OpenOrNot = 10,
     /// "a day that cannot have arisen"
     CannotHaveArisen = 11,
+    /// "when either lent output is too small for the result"
+    RoomShort = 12,
     /// "when the answer table has fewer places than turns, or the page table fewer than n words for
     /// each turn", where it "now ask[s] for 2n places"
     TableShort = 13,

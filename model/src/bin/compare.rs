@@ -12,8 +12,8 @@ use std::error::Error;
 use std::mem;
 use std::process::ExitCode;
 
-const RANDOM: Drawn = Drawn { name: "random", make: random_day, fixed: 4_000, fresh: 200 };
-const CLOSING: Drawn = Drawn { name: "closing", make: closing_day, fixed: 240, fresh: 48 };
+const RANDOM: Drawn = Drawn { name: "random days", make: random_day, fixed: 4_000, fresh: 200 };
+const CLOSING: Drawn = Drawn { name: "closing days", make: closing_day, fixed: 240, fresh: 48 };
 
 #[derive(Default)]
 struct Runner {

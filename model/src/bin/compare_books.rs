@@ -11,9 +11,11 @@ use model::papers::{CASES, ENDINGS};
 use std::error::Error;
 use std::process::ExitCode;
 
-const RANDOM: Drawn = Drawn { name: "random", make: days::random_day, fixed: 2_000, fresh: 100 };
-const LENDING: Drawn = Drawn { name: "lending", make: days::lending_day, fixed: 2_000, fresh: 100 };
-const CLOSING: Drawn = Drawn { name: "closing", make: days::closing_day, fixed: 48, fresh: 8 };
+const RANDOM: Drawn =
+    Drawn { name: "random days", make: days::random_day, fixed: 2_000, fresh: 100 };
+const LENDING: Drawn =
+    Drawn { name: "lending days", make: days::lending_day, fixed: 2_000, fresh: 100 };
+const CLOSING: Drawn = Drawn { name: "closing days", make: days::closing_day, fixed: 48, fresh: 8 };
 
 #[derive(Default)]
 struct Books {
@@ -98,9 +100,9 @@ fn lengths(comparison: &mut Comparison<Books>) -> Checked {
         comparison.check_slowly(&file, 1 << 16)?;
         for more in [1, 6, 1 << 20] {
             file.resize(MOST_BYTES + more, 0);
-            let stopped = comparison.program.refused(&file)?;
+            let stopped = comparison.program.both(&file)?;
             comparison.failed("a file that is too long", &file, b"", &stopped, "")?;
-            let stopped = comparison.program.refused_slowly(&file, 1 << 16)?;
+            let stopped = comparison.program.both_slowly(&file, 1 << 16)?;
             comparison.failed("a long pipe", &file, b"", &stopped, "")?;
         }
     }

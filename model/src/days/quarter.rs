@@ -75,7 +75,7 @@ impl Draft {
         }
     }
 
-    fn borrowing(&mut self) {
+    pub(super) fn borrowing(&mut self) {
         if self.n() > 1 {
             self.lending();
         }

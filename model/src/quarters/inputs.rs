@@ -192,7 +192,7 @@ impl Quarters {
         let run = command.args(words("2", &many)).current_dir(&self.scratch).output()?;
         // 8,004 turns: 1,999 pages of 4 and one of 8.
         let wanted = "desks 2 pages 2000 mean 2001/500 borrowed 1/2000 largest 8\n";
-        let held = self.held(&super::ended(run)?, wanted, &[]);
+        let held = self.held(&program::ended(run)?, wanted, &[]);
         held.map_err(|why| format!("2,000 files: {why}").into())
     }
 
@@ -205,7 +205,7 @@ impl Quarters {
         for count in [1, 5, 7, 64] {
             let mut command = self.command();
             command.args(words("2", &[day.clone()])).stdin(Stdio::piped());
-            let run = super::ended(program::slowly(&mut command, &day.file, count)?)?;
+            let run = program::ended(program::slowly(&mut command, &day.file, count)?)?;
             let wanted = "desks 2 pages 1 mean 8/1 borrowed 1/1 largest 8\n";
             self.held(&run, wanted, &[])
                 .map_err(|why| format!("{count} bytes at a time: {why}"))?;
@@ -213,7 +213,7 @@ impl Quarters {
         }
         let mut command = self.command();
         command.args(["2", name]).stdin(Stdio::piped());
-        let run = super::ended(program::slowly(&mut command, &long, 1 << 16)?)?;
+        let run = program::ended(program::slowly(&mut command, &long, 1 << 16)?)?;
         self.held(&run, "", &[(name, None)]).map_err(|why| format!("a long pipe: {why}").into())
     }
 }

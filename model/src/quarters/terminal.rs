@@ -1,10 +1,10 @@
 //! Runs at a terminal: standard error says which file the program is at, if it is a terminal itself.
 
-use super::{answers, complaints, ended, words, Complaint, Quarters};
+use super::{answers, complaints, words, Complaint, Quarters};
 use crate::comparison::Checked;
 use crate::days::quarter;
 use crate::figures::{figures, line};
-use crate::program::Ended;
+use crate::program::{ended, Ended};
 use std::ffi::{c_char, c_int, CStr};
 use std::fs::{File, OpenOptions};
 use std::io::{self, Read};
