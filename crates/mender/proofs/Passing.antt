@@ -30,13 +30,13 @@ use Rattle.mender.specs.Passes.{Steady, Standing, standing, partsLeft, b
 
 -- ---- lists of parts
 
-kept-append : (ps qs : List Part) → keptOf (ps ++ qs) ≡ keptOf ps ++ keptOf qs
+pub kept-append : (ps qs : List Part) → keptOf (ps ++ qs) ≡ keptOf ps ++ keptOf qs
 kept-append [] qs = refl
 kept-append (p ∷ ps) qs =
     ap (λ bs. bytesKept (p .refusal) (p .bytes) ++ bs) (kept-append ps qs)
     ∙ sym (append-assoc (bytesKept (p .refusal) (p .bytes)) (keptOf ps) (keptOf qs))
 
-drops-append : (at : ℕ) (ps qs : List Part) → dropsOf at (ps ++ qs) ≡ dropsOf at ps ++ dropsOf (at + bytesIn ps) qs
+pub drops-append : (at : ℕ) (ps qs : List Part) → dropsOf at (ps ++ qs) ≡ dropsOf at ps ++ dropsOf (at + bytesIn ps) qs
 drops-append at [] qs = let e : at ≡ at + 0 = omega arith in ap (λ i. dropsOf i qs) e
 drops-append at (p ∷ ps) qs =
     let n = length (p .bytes) in
@@ -54,7 +54,7 @@ kept-few (p ∷ ps) = go (p .refusal) (kept-few ps)
     go none l = simp length-append (omega arith)
     go (some k) l = omega arith
 
-drops-few : (at : ℕ) (ps : List Part) → length (dropsOf at ps) ≤ length ps
+pub drops-few : (at : ℕ) (ps : List Part) → length (dropsOf at ps) ≤ length ps
 drops-few at [] = le-refl 0
 drops-few at (p ∷ ps) = go (p .refusal) (drops-few (at + length (p .bytes)) ps)
   where

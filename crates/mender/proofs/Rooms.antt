@@ -1,5 +1,5 @@
--- Two rooms that are sure to be enough (`room-sure`), what a pass over a whole file leaves in two rooms (`whole-run`), and what mending
--- answers and leaves by it.
+-- Two rooms that are sure to be enough (`room-sure`), how much a pass keeps at most (`pass-short`), what a pass over a whole file leaves in
+-- two rooms (`whole-run`), and what mending answers and leaves by it.
 use Prim.Native.Nat.{ℕ, _+_, _*_, _/_, _≤_, _<_}
 use native.Mathlib.Omega.{arith}
 use native.Mathlib.Decide.{decLt}
@@ -12,20 +12,22 @@ use lib.Dec.{leb, ltb}
 use lib.ListN.{length, length-append, length-map, drop, replicate}
 use lib.Seq.{sets, sets-eq}
 use borrow.Author.Tests.{ltb-false, lt-ltb, le-ltb, lt-leb, le-leb}
-use Rattle.snapshot.specs.Requests.{blankDay}
+use Rattle.snapshot.specs.Lists.{All}
 use Rattle.snapshot.specs.declared.Refusal.{Refusal}
 use Rattle.snapshot.specs.declared.Refusal.the-variants.{RoomShort}
 use Rattle.snapshot.proofs.Booleans.{or-neither}
 use Rattle.dayfile.specs.declared.Reading.the-variants.{Found, Refused as Broken}
 use Rattle.dayfile.specs.Pieces.{Piece, pieces}
+use Rattle.dayfile.proofs.Reader.{found-short}
 use Rattle.dayfile.proofs.Pieces.{Sized, Cuts, over, found, broken, pieces-cut}
 use Rattle.days.specs.Happenings.{Box, blankBox, boxAfter, outcomeIn}
+use Rattle.packed_days.specs.Boxes.{boxIn}
 use Rattle.packed_days.proofs.Blank.{blank-words, blank-box}
 use Rattle.mender.specs.declared.Progress.{Progress}
 use Rattle.mender.specs.declared.Mending.the-variants.{Written, Refused}
-use Rattle.mending.specs.Mending.{refusalBy, judged, partsOf, bytesKept, keptOf, Drop, dropBy, dropsOf, mended, dropped}
+use Rattle.mending.specs.Mending.{refusalBy, Part, judged, partsOf, bytesKept, keptOf, Drop, dropBy, dropsOf, mended, dropped}
 use Rattle.mender.specs.Results.{rowOf, lacksRoom, mendingOf, atFront, keptWith, rowsWith}
-use Rattle.mender.specs.Passes.{blankProgress, standing, partsLeft, IsPass, IsPassUpTo, IsRun}
+use Rattle.mender.specs.Passes.{blankProgress, Standing, standing, partsLeft, IsPass, IsPassUpTo, IsRun}
 use Rattle.mender.proofs.Passing.{none-left}
 
 -- ---- each byte is kept or dropped, and each drop but the last has two bytes at least
@@ -62,6 +64,36 @@ room-sure file room rows wide many =
     let kept : length (mended file) ≤ room = omega arith in
     let drops : length (dropped file) ≤ rows = omega arith in
     ap₂ _||_ (le-ltb room (length (mended file)) kept) (le-ltb rows (length (dropped file)) drops)
+
+-- ---- what is kept of a part has ten bytes at most
+
+abbrev Short : Part → Type 0
+Short p = length (bytesKept (p .refusal) (p .bytes)) ≤ 10
+
+short-kept : (k : Option Refusal) (p : List ℕ) → length p ≤ 10 → length (bytesKept k p) ≤ 10
+short-kept none p l = l
+short-kept (some k) p l = omega arith
+
+short-parts : (b : Box) {file : List ℕ} {ps : List Piece} → Cuts file ps → All Short (judged b ps)
+short-parts b over = tt
+short-parts b (found p {r} size alone c) =
+    let x = Found r (length p) in
+    (short-kept (refusalBy x (outcomeIn b x)) p (found-short (p ++ []) r (length p) (alone [])), short-parts (boxAfter b x) c)
+short-parts b (broken p {k} size q c) = (omega arith, short-parts (boxAfter b (Broken k)) c)
+
+-- of so many parts, ten times as many: the first of parts that are short
+front-short : (ps qs : List Part) → All Short (ps ++ qs) → length (keptOf ps) ≤ 10 * length ps
+front-short [] qs short = omega arith
+front-short (p ∷ ps) qs short =
+    let here = short .0 in
+    let later = front-short ps qs (short .1) in
+    simp length-append (omega arith)
+
+pub pass-short : {file : List ℕ} {count : ℕ} {w v : Standing} (p : IsPass file count w v) → length (keptOf (p .done)) ≤ 10 * count
+pass-short {file} {count} {w} {v} p =
+    let b = boxIn (w .progress .day) (w .table) (w .page) in
+    let short = subst (All Short) (p .parts) (short-parts b (pieces-cut (drop (w .progress .at) file))) in
+    subst (λ n. length (keptOf (p .done)) ≤ 10 * n) (p .counted) (front-short (p .done) (partsLeft file v) short)
 
 -- ---- a pass over a whole file
 
@@ -114,7 +146,7 @@ module _ (file : List ℕ) (places rows : ℕ) (s : Progress) (is : IsRun file s
 -- ---- what is answered and left
 
 -- stores from the first place on, where there are as many places
-front-stored : {A : Type 0} (xs output : List A) → length xs ≤ length output → sets output 0 xs ≡ atFront xs output
+pub front-stored : {A : Type 0} (xs output : List A) → length xs ≤ length output → sets output 0 xs ≡ atFront xs output
 front-stored xs output l =
     let e : 0 + length xs ≡ length xs = omega arith in
     sets-eq xs output 0 (omega arith) ∙ ap (λ n. xs ++ drop n output) e

@@ -90,3 +90,7 @@ module _ {A : Type 0} (f : A → List ℕ) where
   each-more (x ∷ xs) zero z l = sym (append-nil (f x))
   each-more (x ∷ xs) (suc i) z l =
       append-assoc (f x) (eachText f (take i xs)) (f (getD xs i z)) ∙ ap (λ t. f x ++ t) (each-more xs i z (omega arith))
+
+  pub each-append : (xs ys : List A) → eachText f (xs ++ ys) ≡ eachText f xs ++ eachText f ys
+  each-append [] ys = refl
+  each-append (x ∷ xs) ys = ap (λ t. f x ++ t) (each-append xs ys) ∙ sym (append-assoc (f x) (eachText f xs) (eachText f ys))
