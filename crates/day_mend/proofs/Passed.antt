@@ -5,7 +5,7 @@ use native.Mathlib.Decide.{decLt}
 use native.Mathlib.Omega.{arith}
 use mathlib.Core.Path.{_≡_, refl, sym, ap, _∙_, subst}
 use mathlib.Core.Logic.{by-cases}
-use mathlib.Core.Bool.{Bool, true, false}
+use mathlib.Core.Bool.{Bool, true, false, true≢false}
 use mathlib.Core.List.{List, [], _++_, map}
 use lib.ListN.{length, take, drop, length-map, drop-of-length-le}
 use lib.Seq.{sets, length-sets, take-at}
@@ -19,8 +19,9 @@ use Rattle.mender.proofs.Passing.{drops-few}
 use Rattle.mender.proofs.Rooms.{pass-short, front-stored}
 use Rattle.mendlines.specs.DropText.{longestDrop, rowsText, dropsText}
 use Rattle.mendlines.proofs.Texts.{rows-text}
+use Rattle.streams.specs.System.{IsSent}
 use Rattle.day_mend.specs.declared.Stand.{Stand}
-use Rattle.day_mend.specs.Runs.{Rooms, IsTold, Writes, over, stops, goes-on, partsFrom, IsPassed}
+use Rattle.day_mend.specs.Runs.{Rooms, Tells, IsWritten, Writes, over, stops, goes-on, partsFrom, IsPassed}
 
 -- the first places of an output that was stored from its first place on
 stored-front : {A : Type 0} (xs output after : List A) (n : ℕ) → after ≡ sets output 0 xs → n ≡ length xs → length xs ≤ length output →
@@ -70,50 +71,80 @@ module _ (file : List ℕ) (s : Stand) (t : List (List ℕ)) (page room : List �
   further =
       by-cases (decLt (p .at) (length file)) (λ l. let all = is .all l in let on = is .pass .onward in omega arith) (λ l. omega arith)
 
-  pub passed : (went : Bool) → IsTold (take (p .kept) room′) (rowsText (take (p .drops) rows′)) went →
-      IsPassed file s t page (record { day = p .day; at = p .at; went = went }) t′ page′
-  passed went told =
+  pub passed : (went told : Bool) → IsWritten (take (p .kept) room′) (rowsText (take (p .drops) rows′)) (s .told) went told →
+      IsPassed file s t page (record { day = p .day; at = p .at; went = went; told = told }) t′ page′
+  passed went told written =
       record {
         done = done;
         parts = is .pass .parts;
         moved = is .pass .moved;
         further = further;
         within = is .pass .within;
-        told = subst (λ ls. IsTold (keptOf done) ls went) lines-front
-            (subst (λ ks. IsTold ks (rowsText (take (p .drops) rows′)) went) kept-front told);
+        written = subst (λ ls. IsWritten (keptOf done) ls (s .told) went told) lines-front
+            (subst (λ ks. IsWritten ks (rowsText (take (p .drops) rows′)) (s .told) went told) kept-front written);
         long = is .pass .long;
       }
 
 -- ---- passes one after the other
 
 -- where all was taken so far, what is handed on of the parts that are left is what is handed on of all; else that is known
-abbrev pub Ahead : (all : List Part) → (at : ℕ) → (left : List Part) → Bool → Type 0
-Ahead all at left true = (went : Bool) → Writes at left went → Writes 0 all went
-Ahead all at left false = Writes 0 all false
+abbrev pub Ahead : (all : List Part) → (at : ℕ) → (left : List Part) → (going telling : Bool) → Type 0
+Ahead all at left true telling = (went told : Bool) → Writes at telling left went told → Writes 0 true all went told
+Ahead all at left false telling = Writes 0 true all false telling
 
-module _ (file : List ℕ) (all : List Part) (s : Stand) (t : List (List ℕ)) (page : List ℕ) where
-  pub goes-ahead : Ahead all (s .at) (partsFrom file s t page) true → (p : Stand) (t′ : List (List ℕ)) (page′ : List ℕ) →
-      IsPassed file s t page p t′ page′ → Ahead all (p .at) (partsFrom file p t′ page′) (p .went)
-  goes-ahead ahead p t′ page′ is = go (p .went) (is .told)
-    where
-      go : (b : Bool) → IsTold (keptOf (is .done)) (dropsText (dropsOf (s .at) (is .done))) b →
-          Ahead all (p .at) (partsFrom file p t′ page′) b
-      go true told =
-          λ went later.
-          ahead went (subst (λ ps. Writes (s .at) ps went) (sym (is .parts))
-          (goes-on (is .done) told (subst (λ a. Writes a (partsFrom file p t′ page′) went) (is .moved) later)))
-      go false told =
-          ahead false (subst (λ ps. Writes (s .at) ps false) (sym (is .parts)) (stops (is .done) (partsFrom file p t′ page′) told))
+module _ (file : List ℕ) (all : List Part) (s : Stand) (t : List (List ℕ)) (page : List ℕ)
+    (ahead : Ahead all (s .at) (partsFrom file s t page) (s .went) (s .told)) where
+  -- where standard output did not take all
+  pub all-stopped : s .went ≡ false → Writes 0 true all (s .went) (s .told)
+  all-stopped q =
+      subst (λ b. Writes 0 true all b (s .told)) (sym q) (subst (λ b. Ahead all (s .at) (partsFrom file s t page) b (s .told)) q ahead)
 
-  -- at the end of the file
-  pub all-ahead : length file ≤ s .at → Ahead all (s .at) (partsFrom file s t page) true → Writes 0 all true
-  unfolding pieces piecesUpTo
-  all-ahead end ahead =
-      let none = ap (λ bs. judged (boxIn (s .day) t page) (pieces bs)) (drop-of-length-le file {i = s .at} end) in
-      ahead true (subst (λ ps. Writes (s .at) ps true) (sym none) over)
+  module _ (going : s .went ≡ true) where
+    on : Ahead all (s .at) (partsFrom file s t page) true (s .told)
+    on = subst (λ b. Ahead all (s .at) (partsFrom file s t page) b (s .told)) going ahead
+
+    pub goes-ahead : (p : Stand) (t′ : List (List ℕ)) (page′ : List ℕ) → IsPassed file s t page p t′ page′ →
+        Ahead all (p .at) (partsFrom file p t′ page′) (p .went) (p .told)
+    goes-ahead p t′ page′ is = go (p .went) (is .written)
+      where
+        go : (b : Bool) → IsWritten (keptOf (is .done)) (dropsText (dropsOf (s .at) (is .done))) (s .told) b (p .told) →
+            Ahead all (p .at) (partsFrom file p t′ page′) b (p .told)
+        go true w =
+            λ went told later.
+            on went told (subst (λ ps. Writes (s .at) (s .told) ps went told) (sym (is .parts))
+            (goes-on (is .done) (w .0) (w .1) (subst (λ a. Writes a (p .told) (partsFrom file p t′ page′) went told) (is .moved) later)))
+        go false w =
+            subst (Writes 0 true all false) (sym (w .1)) (on false (s .told)
+            (subst (λ ps. Writes (s .at) (s .told) ps false (s .told)) (sym (is .parts))
+            (stops (is .done) (partsFrom file p t′ page′) (w .0))))
+
+    -- at the end of the file
+    pub all-passed : length file ≤ s .at → Writes 0 true all (s .went) (s .told)
+    unfolding pieces piecesUpTo
+    all-passed end =
+        let none = ap (λ bs. judged (boxIn (s .day) t page) (pieces bs)) (drop-of-length-le file {i = s .at} end) in
+        subst (λ b. Writes 0 true all b (s .told)) (sym going)
+        (on true (s .told) (subst (λ ps. Writes (s .at) (s .told) ps true (s .told)) (sym none) over))
 
 -- rooms of the same lengths
 pub same-rooms : {a b c : ℕ} → Rooms a b c → (a′ b′ c′ : ℕ) → a′ ≡ a → b′ ≡ b → c′ ≡ c → Rooms a′ b′ c′
 same-rooms rooms a′ b′ c′ p q r =
     let x = rooms .bytes in let y = rooms .drops in let z = rooms .text in
     record { bytes = omega arith; drops = omega arith; text = omega arith }
+
+-- ---- lines
+
+pub untold : (telling : Bool) (lines : List ℕ) → telling ≡ false → Tells telling lines false
+untold true lines q = absurd (true≢false q)
+untold false lines q = refl
+
+pub told-by : (telling : Bool) (lines : List ℕ) (told : Bool) → telling ≡ true → IsSent lines told → Tells telling lines told
+told-by true lines told q sent = sent
+told-by false lines told q sent = absurd (true≢false (sym q))
+
+-- ---- nothing
+
+pub none-written : (parts : List Part) (went told : Bool) → parts ≡ [] → went ≡ true → told ≡ true → Writes 0 true parts went told
+none-written parts went told q w t =
+    subst (λ ps. Writes 0 true ps went told) (sym q)
+    (subst (λ b. Writes 0 true [] b told) (sym w) (subst (Writes 0 true [] true) (sym t) over))

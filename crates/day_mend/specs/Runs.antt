@@ -22,18 +22,24 @@ pub record Rooms (room rows lines : ℕ) : Type 0 where
   pub drops : 1024 ≤ rows
   pub text : longestDrop * 1024 ≤ lines
 
--- the kept bytes were handed to standard output, and, if they were taken, the lines to standard error
-abbrev pub IsTold : (kept lines : List ℕ) → Bool → Type 0
-IsTold kept lines false = IsSent kept false
-IsTold kept lines true = IsSent kept true × ((told : Bool) × IsSent lines told)
+-- lines were handed to standard error, if those before them were taken; else none are told any more
+abbrev pub Tells : (telling : Bool) → (lines : List ℕ) → (told : Bool) → Type 0
+Tells true lines told = IsSent lines told
+Tells false lines told = told ≡ false
 
--- the parts of a file, the first of which begins at byte `at`, are handed on, some at a time, until a write to standard output is not taken
-pub data Writes : (at : ℕ) → List Part → Bool → Type 0 where
-  over : {at : ℕ} → Writes at [] true
-  stops : {at : ℕ} (done left : List Part) → IsTold (keptOf done) (dropsText (dropsOf at done)) false →
-      Writes at (done ++ left) false
-  goes-on : {at : ℕ} (done : List Part) {left : List Part} {went : Bool} → IsTold (keptOf done) (dropsText (dropsOf at done)) true →
-      Writes (at + bytesIn done) left went → Writes at (done ++ left) went
+-- kept bytes were handed to standard output and, if they were taken, lines to standard error
+abbrev pub IsWritten : (kept lines : List ℕ) → (telling went told : Bool) → Type 0
+IsWritten kept lines telling true told = IsSent kept true × Tells telling lines told
+IsWritten kept lines telling false told = IsSent kept false × (told ≡ telling)
+
+-- the parts of a file, the first of which begins at byte `at`, are handed on, some at a time, until a write to standard output is not
+-- taken: whether all of them went, and whether every drop was told
+pub data Writes : (at : ℕ) → (telling : Bool) → List Part → (went told : Bool) → Type 0 where
+  over : {at : ℕ} {telling : Bool} → Writes at telling [] true telling
+  stops : {at : ℕ} {telling : Bool} (done left : List Part) → IsSent (keptOf done) false → Writes at telling (done ++ left) false telling
+  goes-on : {at : ℕ} {telling : Bool} (done : List Part) {left : List Part} {next went told : Bool} → IsSent (keptOf done) true →
+      Tells telling (dropsText (dropsOf at done)) next → Writes (at + bytesIn done) next left went told →
+      Writes at telling (done ++ left) went told
 
 -- the parts that are left of a file
 abbrev pub partsFrom : (file : List ℕ) → Stand → (table : List (List ℕ)) → (page : List ℕ) → List Part
@@ -47,26 +53,26 @@ pub record IsPassed (file : List ℕ) (s : Stand) (t : List (List ℕ)) (page : 
   pub moved : p .at ≡ s .at + bytesIn done
   pub further : s .at < p .at
   pub within : p .at ≤ length file
-  pub told : IsTold (keptOf done) (dropsText (dropsOf (s .at) done)) (p .went)
+  pub written : IsWritten (keptOf done) (dropsText (dropsOf (s .at) done)) (s .told) (p .went) (p .told)
   pub long : LongRows t′
 
 -- what is handed to standard output, and to standard error, one after the other
-abbrev pub handedOut : {at : ℕ} {parts : List Part} {went : Bool} → Writes at parts went → List ℕ
+abbrev pub handedOut : {at : ℕ} {telling : Bool} {parts : List Part} {went told : Bool} → Writes at telling parts went told → List ℕ
 handedOut over = []
-handedOut (stops done left told) = keptOf done
-handedOut (goes-on done told later) = keptOf done ++ handedOut later
+handedOut (stops done left sent) = keptOf done
+handedOut (goes-on done sent told later) = keptOf done ++ handedOut later
 
-abbrev pub handedErr : {at : ℕ} {parts : List Part} {went : Bool} → Writes at parts went → List ℕ
+abbrev pub handedErr : {at : ℕ} {telling : Bool} {parts : List Part} {went told : Bool} → Writes at telling parts went told → List ℕ
 handedErr over = []
-handedErr (stops done left told) = []
-handedErr (goes-on {at} done told later) = dropsText (dropsOf at done) ++ handedErr later
+handedErr (stops done left sent) = []
+handedErr (goes-on {at} {telling} done sent told later) = cond telling (dropsText (dropsOf at done)) [] ++ handedErr later
 
 -- the parts that are written of an input: those of a day file that has come whole, else none
 unfoldable pub partsWritten : Incoming → List Part
 partsWritten i = cond (i .failed) [] (cond (i .last) (partsOf (i .left)) [])
 
--- a run: the input was read into bytes, and its parts were handed on, all or not
-pub record IsMendRun (bytes : List ℕ) (went : Bool) : Type 0 where
+-- a run: the input was read into bytes, and its parts were handed on
+pub record IsMendRun (bytes : List ℕ) (went told : Bool) : Type 0 where
   pub input : Input
   pub whole : IsWhole input bytes
-  pub wrote : Writes 0 (partsWritten (incoming input bytes)) went
+  pub wrote : Writes 0 true (partsWritten (incoming input bytes)) went told

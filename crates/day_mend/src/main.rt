@@ -9,6 +9,7 @@ use streams::input;
 use streams::input::Input;
 use streams::output;
 ghost use mathlib.Core.Path.{_≡_};
+ghost use mathlib.Core.Bool.{true};
 ghost use Prim.Native.Nat.{_*_, _≤_};
 ghost use lib.ListN.{length, take};
 ghost use Rattle.snapshot.specs.Requests.{blankDay};
@@ -19,7 +20,7 @@ ghost use Rattle.mending.specs.Mending.{judged, partsOf};
 ghost use Rattle.mending.specs.Judging.{Ready};
 ghost use Rattle.mendlines.specs.DropText.{longestDrop, rowsText};
 ghost use Rattle.streams.specs.Input.{incoming};
-ghost use Rattle.day_mend.specs.Runs.{Rooms, IsTold, Writes, IsPassed, partsWritten, IsMendRun};
+ghost use Rattle.day_mend.specs.Runs.{Rooms, Tells, IsWritten, Writes, IsPassed, partsWritten, IsMendRun};
 
 // The bytes of the longest day file, and one more: a file that fills the buffer is too long.
 const INPUT: usize = 6291457;
@@ -33,29 +34,56 @@ const ROOM: usize = 10240;
 // Room for as many lines, 82 bytes each.
 const LINES: usize = 83968;
 
-// How far a file has come: the day, the place of the next byte, and whether all that was written was taken.
+// Whether standard output took all that was written, and whether every drop could be told.
+struct Writing {
+    went: bool,
+    told: bool,
+}
+
+// How far a file has come: the day, the place of the next byte, and how the writes went.
 struct Stand {
     day: Day,
     at: usize,
     went: bool,
+    told: bool,
 }
 
-// Writes what is kept, and tells what is dropped. A drop that cannot be told does not hold up the file.
-fn write_pass(s: Progress, room: &[u8], rows: &[[u64; 3]], lines: &mut [u8]) -> bool
-    requires { ⌜ (s .kept ≤ length (now room)) × (s .drops ≤ length (now rows)) × (longestDrop * s .drops ≤ length (now lines)) ⌝ }
-    ensures { λ went. ⌜ IsTold (take (s .kept) (now (room .entry))) (rowsText (take (s .drops) (now (rows .entry)))) went ⌝ }
+// Tells the drops of the first `count` rows. Once one could not be told no more are, so that what is told is a beginning of the list.
+fn tell(telling: bool, rows: &[[u64; 3]], count: usize, lines: &mut [u8]) -> bool
+    requires { ⌜ (count ≤ length (now rows)) × (longestDrop * count ≤ length (now lines)) ⌝ }
+    ensures { λ told. ⌜ Tells telling (rowsText (take count (now (rows .entry)))) told ⌝ }
 {
-    if !output::write_out(room, s.kept, b"day_mend: cannot write standard output") {
+    if !telling {
         return false;
     }
-    let n = mendlines::lay_rows(rows, s.drops, lines);
+    let n = mendlines::lay_rows(rows, count, lines);
     output::write_to(
         STDERR_FILENO,
         lines,
         n,
         b"day_mend: cannot write standard error",
-    );
-    true
+    )
+}
+
+// Writes what is kept, and tells what is dropped. A drop that cannot be told does not hold up the file.
+fn write_pass(
+    s: Progress,
+    telling: bool,
+    room: &[u8],
+    rows: &[[u64; 3]],
+    lines: &mut [u8],
+) -> Writing
+    requires { ⌜ (s .kept ≤ length (now room)) × (s .drops ≤ length (now rows)) × (longestDrop * s .drops ≤ length (now lines)) ⌝ }
+    ensures { λ w. ⌜ IsWritten (take (s .kept) (now (room .entry))) (rowsText (take (s .drops) (now (rows .entry)))) telling (w .went) (w .told) ⌝ }
+{
+    if !output::write_out(room, s.kept, b"day_mend: cannot write standard output") {
+        return Writing {
+            went: false,
+            told: telling,
+        };
+    }
+    let told = tell(telling, rows, s.drops, lines);
+    Writing { went: true, told }
 }
 
 // Mends the next pieces of a file, and writes what they come to.
@@ -79,16 +107,17 @@ fn pass_on(
         drops: 0,
     };
     let p = mender::pass(from, PIECES, bytes, t, page, room, rows);
-    let went = write_pass(p, room, rows, lines);
+    let w = write_pass(p, s.told, room, rows, lines);
     let after = p.day;
     Stand {
         day: after,
         at: p.at,
-        went,
+        went: w.went,
+        told: w.told,
     }
 }
 
-// Mends a file, some pieces at a time, on a table and a page list, and answers whether all of it was taken.
+// Mends a file, some pieces at a time, on a table and a page list.
 fn passes(
     bytes: &[u8],
     t: &mut [[u32; 369]],
@@ -96,29 +125,44 @@ fn passes(
     room: &mut [u8],
     rows: &mut [[u64; 3]],
     lines: &mut [u8],
-) -> bool
+) -> Writing
     requires { ⌜ (length (now t) ≡ 8) × LongRows (now t) × Rooms (length (now room)) (length (now rows)) (length (now lines)) ⌝ }
-    ensures { λ went. ⌜ Writes 0 (judged (boxIn blankDay (now (t .entry)) (now (page .entry))) (pieces (now (bytes .entry)))) went ⌝ }
+    ensures { λ w. ⌜ Writes 0 true (judged (boxIn blankDay (now (t .entry)) (now (page .entry))) (pieces (now (bytes .entry))))
+        (w .went) (w .told) ⌝ }
 {
     let mut s = Stand {
         day: snapshot::blank(),
         at: 0,
         went: true,
+        told: true,
     };
     while s.went && s.at < bytes.len() {
         s = pass_on(s, bytes, t, page, room, rows, lines);
     }
-    s.went
+    Writing {
+        went: s.went,
+        told: s.told,
+    }
 }
 
 // Mends a file from a blank day on.
-fn mend(bytes: &[u8], room: &mut [u8], rows: &mut [[u64; 3]], lines: &mut [u8]) -> bool
+fn mend(bytes: &[u8], room: &mut [u8], rows: &mut [[u64; 3]], lines: &mut [u8]) -> Writing
     requires { ⌜ Rooms (length (now room)) (length (now rows)) (length (now lines)) ⌝ }
-    ensures { λ went. ⌜ Writes 0 (partsOf (now (bytes .entry))) went ⌝ }
+    ensures { λ w. ⌜ Writes 0 true (partsOf (now (bytes .entry))) (w .went) (w .told) ⌝ }
 {
     let mut t = [[0u32; 369]; 8];
     let mut page = [0u32; 16];
     passes(bytes, &mut t, &mut page, room, rows, lines)
+}
+
+// Nothing was to be written.
+fn nothing() -> Writing
+    ensures { λ w. ⌜ (w .went ≡ true) × (w .told ≡ true) ⌝ }
+{
+    Writing {
+        went: true,
+        told: true,
+    }
 }
 
 // Mends an input that came whole; a read that failed was told where it failed.
@@ -128,28 +172,28 @@ fn mend_input(
     room: &mut [u8],
     rows: &mut [[u64; 3]],
     lines: &mut [u8],
-) -> bool
+) -> Writing
     requires { ⌜ (input .at ≡ 0) × (input .end ≤ length (now bytes)) × Rooms (length (now room)) (length (now rows)) (length (now lines)) ⌝ }
-    ensures { λ went. ⌜ Writes 0 (partsWritten (incoming input (now (bytes .entry)))) went ⌝ }
+    ensures { λ w. ⌜ Writes 0 true (partsWritten (incoming input (now (bytes .entry)))) (w .went) (w .told) ⌝ }
 {
     if input.failed {
-        return true;
+        return nothing();
     }
     if !input.last {
         io::write_all(
             STDERR_FILENO,
             b"day_mend: the day file has more than 6291456 bytes\n",
         );
-        return true;
+        return nothing();
     }
     let end = input.end;
     mend(&bytes[..end], room, rows, lines)
 }
 
 // Reads the whole input, and mends it.
-fn run(bytes: &mut [u8], room: &mut [u8], rows: &mut [[u64; 3]], lines: &mut [u8]) -> bool
+fn run(bytes: &mut [u8], room: &mut [u8], rows: &mut [[u64; 3]], lines: &mut [u8]) -> Writing
     requires { ⌜ Rooms (length (now room)) (length (now rows)) (length (now lines)) ⌝ }
-    ensures { λ went. ⌜ IsMendRun (now (bytes .exit)) went ⌝ }
+    ensures { λ w. ⌜ IsMendRun (now (bytes .exit)) (w .went) (w .told) ⌝ }
 {
     let input = input::whole(STDIN_FILENO, bytes, b"day_mend: cannot read standard input");
     mend_input(input, bytes, room, rows, lines)

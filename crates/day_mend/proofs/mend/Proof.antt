@@ -1,4 +1,5 @@
 -- `day_mend::mend` meets its contract.
+use mathlib.Core.Bool.{true}
 use mathlib.Core.Path.{refl, subst}
 use Rattle.dayfile.specs.Pieces.{pieces}
 use Rattle.packed_days.proofs.Blank.{blank-rows, blank-box}
@@ -31,7 +32,7 @@ unfolding partsOf
 returns c =
     let at-passes = c .before .before .before .before .before .before .before in
     let bytes = at-passes .before .before .before .before .before .before .before .before .before .args .bytes .now in
-    subst (λ b. Writes 0 (judged b (pieces bytes)) (at-passes .passes .result)) blank-box (at-passes .passes .ensures)
+    subst (λ b. Writes 0 true (judged b (pieces bytes)) (at-passes .passes .result .went) (at-passes .passes .result .told)) blank-box (at-passes .passes .ensures)
 
 pub mend-spec : {M : Type 1} → statement M
 mend-spec =

@@ -36,7 +36,7 @@ returns c =
     let start = at-pass .before .before .before .before .before .before .before .before .before .before in
     let a = start .args in
     passed (a .bytes .now) (a .s) (a .t .now) (a .page .now) (a .room .now) (a .rows .now) (at-pass .pass .result) _ _ _ _ _
-    (start .pre .0 .more) (at-pass .pass .ensures) (start .pre .1) _ (c .before .before .before .write-pass .ensures)
+    (start .pre .0 .more) (at-pass .pass .ensures) (start .pre .1) _ _ (c .before .before .before .write-pass .ensures)
 
 pub pass-on-spec : {M : Type 1} → statement M
 pass-on-spec =

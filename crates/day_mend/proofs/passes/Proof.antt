@@ -2,6 +2,7 @@
 use Prim.Native.Nat.{_-_}
 use native.Mathlib.Omega.{arith}
 use mathlib.Core.Path.{_≡_, refl, sym, ap, _∙_, subst}
+use mathlib.Core.Bool.{true}
 use lib.ListN.{length}
 use borrow.Author.Needs.{needs}
 use borrow.Author.Tests.{ltb-true, ltb-false}
@@ -11,7 +12,7 @@ use Rattle.packed_rows.specs.Rows.{LongRows}
 use Rattle.packed_days.specs.Boxes.{boxIn}
 use Rattle.mending.specs.Mending.{judged}
 use Rattle.day_mend.specs.Runs.{Writes, partsFrom}
-use Rattle.day_mend.proofs.Passed.{Ahead, goes-ahead, all-ahead, same-rooms}
+use Rattle.day_mend.proofs.Passed.{Ahead, goes-ahead, all-passed, all-stopped, same-rooms}
 use Rattle.day_mend.proofs.passes.Statement.{statement}
 use Rattle.day_mend.proofs.passes.Tie as tie
 
@@ -23,7 +24,7 @@ Inv-loop bytes t₀ page₀ room₀ rows₀ lines₀ s₀ t page room rows lines
     × (length room ≡ length room₀)
     × (length rows ≡ length rows₀)
     × (length lines ≡ length lines₀)
-    × Ahead (judged (boxIn blankDay t₀ page₀) (pieces bytes)) (s .at) (partsFrom bytes s t page) (s .went)
+    × Ahead (judged (boxIn blankDay t₀ page₀) (pieces bytes)) (s .at) (partsFrom bytes s t page) (s .went) (s .told)
 
 abbrev μ-loop : tie.MeasureT-loop
 μ-loop bytes t₀ page₀ room₀ rows₀ lines₀ s₀ t page room rows lines s = length bytes - s .at
@@ -41,7 +42,8 @@ loop-holds c =
       refl,
       refl,
       refl,
-      λ went w. subst (λ d. Writes 0 (judged (boxIn d (a .t .now) (a .page .now)) (pieces (a .bytes .now))) went) (c .blank .ensures) w,
+      λ went told w.
+          subst (λ d. Writes 0 true (judged (boxIn d (a .t .now) (a .page .now)) (pieces (a .bytes .now))) went told) (c .blank .ensures) w,
     )
 
 pass-on-requires : tie.Need-pass-on-requires Inv-loop μ-loop
@@ -64,7 +66,8 @@ loop-again c =
     let p = at-pass .pass-on in
     let at-test = at-pass .before .before .before .before .before .before .before .before in
     let l = at-test .before .loop in
-    let bytes = at-test .before .before .before .before .before .before .before .args .bytes .now in
+    let a = at-test .before .before .before .before .before .before .before .args in
+    let bytes = a .bytes .now in
     let t-long : length (p .last .1 .1 .0) ≡ length (l .t) = search (needs, c .before .before .before .before .before .before .before .t .given) in
     let page-long : length (p .last .1 .1 .1 .0) ≡ length (l .page) = search (needs, c .before .before .before .before .before .before .page .given) in
     let room-long : length (p .last .1 .1 .1 .1 .0) ≡ length (l .room) = search (needs, c .before .before .before .before .room .given) in
@@ -76,7 +79,8 @@ loop-again c =
       room-long ∙ l .inv .3,
       rows-long ∙ l .inv .4,
       lines-long ∙ l .inv .5,
-      goes-ahead bytes _ (l .s) (l .t) (l .page) (subst (Ahead _ (l .s .at) _) (at-test .loop-test .taken) (l .inv .6)) (p .result) _ _ (p .ensures),
+      goes-ahead bytes (judged (boxIn blankDay (a .t .now) (a .page .now)) (pieces bytes)) (l .s) (l .t) (l .page) (l .inv .6)
+          (at-test .loop-test .taken) (p .result) _ _ (p .ensures),
     )
 
 same-length : tie.Need-same-length Inv-loop μ-loop
@@ -98,10 +102,10 @@ returns : tie.Need-returns Inv-loop μ-loop
 returns c =
     let at-test = c .before .before in
     let l = at-test .before .loop in
-    let bytes = at-test .before .before .before .before .before .before .before .args .bytes .now in
-    let went = at-test .loop-test .taken in
-    let end = ltb-false (l .s .at) (length bytes) (c .if1 .left) in
-    subst (Writes 0 _) (sym went) (all-ahead bytes _ (l .s) (l .t) (l .page) end (subst (Ahead _ (l .s .at) _) went (l .inv .6)))
+    let a = at-test .before .before .before .before .before .before .before .args in
+    let bytes = a .bytes .now in
+    all-passed bytes (judged (boxIn blankDay (a .t .now) (a .page .now)) (pieces bytes)) (l .s) (l .t) (l .page) (l .inv .6)
+    (at-test .loop-test .taken) (ltb-false (l .s .at) (length bytes) (c .if1 .left))
 
 same-length-6 : tie.Need-same-length-6 Inv-loop μ-loop
 same-length-6 c = search needs
@@ -121,8 +125,10 @@ same-length-10 c = search needs
 returns-2 : tie.Need-returns-2 Inv-loop μ-loop
 returns-2 c =
     let l = c .before .loop in
-    let stopped = c .loop-test .left in
-    subst (Writes 0 _) (sym stopped) (subst (Ahead _ (l .s .at) _) stopped (l .inv .6))
+    let a = c .before .before .before .before .before .before .before .args in
+    let bytes = a .bytes .now in
+    all-stopped bytes (judged (boxIn blankDay (a .t .now) (a .page .now)) (pieces bytes)) (l .s) (l .t) (l .page) (l .inv .6)
+    (c .loop-test .left)
 
 pub passes-spec : {M : Type 1} → statement M
 passes-spec =
