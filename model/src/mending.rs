@@ -14,6 +14,7 @@ pub const MOST_BYTES: usize = 6_291_456;
 pub const TOO_LONG: &str = "day_mend: the day file has more than 6291456 bytes\n";
 pub const CANNOT_READ: &str = "day_mend: cannot read standard input";
 pub const CANNOT_WRITE: &str = "day_mend: cannot write standard output";
+pub const CANNOT_TELL: &str = "day_mend: cannot write standard error";
 
 /// Bytes of a file that are read together: a record, or what the reader's refusal drops.
 #[derive(Clone, Copy, Debug, PartialEq, Eq)]

@@ -5,7 +5,8 @@ use super::{other_bytes, Mends};
 use crate::comparison::{bytes, Checked, SMALL};
 use crate::counts::Reached;
 use crate::days::{damaged_day, full_day, long_file, pages_day, refused_records};
-use crate::mending::{mend, text, Mended, CANNOT_READ, CANNOT_WRITE, MOST_BYTES, TOO_LONG};
+use crate::mending::{mend, text, Mended, CANNOT_READ, CANNOT_TELL, CANNOT_WRITE};
+use crate::mending::{MOST_BYTES, TOO_LONG};
 use crate::program::Ended;
 
 /// How many runs were told what, or could not be.
@@ -152,7 +153,8 @@ impl Mends {
         half_said("a write that fails after another", &wanted, &run)
     }
 
-    /// The mended file comes whole where standard error cannot be written.
+    /// The mended file comes whole where standard error cannot be written. What is told then is a
+    /// beginning of the drops, with a message behind it if there is room for one.
     fn unsaid(&mut self) -> Checked {
         let damaged = bytes("open 1\nturn 1\npage 1\nraw 04 00 09 00 01 00\nturn 1\nraw 04");
         for file in [bytes(SMALL), damaged, long_file(1 << 20, 2)] {
@@ -163,12 +165,14 @@ impl Mends {
                     let why = other_bytes(&wanted.kept, &run.printed);
                     return Err(format!("standard error cannot be written: {why}").into());
                 }
-                if !lines.starts_with(&run.message) {
-                    return Err(format!("what was said in part is {:.500}", run.message).into());
+                let end = run.message.find(CANNOT_TELL).unwrap_or(run.message.len());
+                let told = &run.message[..end];
+                if !lines.starts_with(told) {
+                    return Err(format!("what was said in part is {told:.500}").into());
                 }
-                let part = !run.message.is_empty() && run.message.len() < lines.len();
+                let part = !told.is_empty() && told.len() < lines.len();
                 self.said.said_in_part += u64::from(part);
-                self.said.unsaid += u64::from(run.message.is_empty() && !lines.is_empty());
+                self.said.unsaid += u64::from(told.is_empty() && !lines.is_empty());
             }
         }
         Ok(())
