@@ -8,12 +8,18 @@ use mathlib.Core.Option.{Option, none, some, Option·none-ne-some}
 use lib.ListN.{length}
 use lib.Seq.{drop-at}
 use Rattle.snapshot.specs.Lists.{keep, All}
+use Rattle.snapshot.specs.Refusals.{numberOf}
+use Rattle.snapshot.specs.Demand.{refusalOf}
+use Rattle.snapshot.specs.Replies.{replyOf}
 use Rattle.snapshot.specs.declared.Refusal.{Refusal}
+use Rattle.snapshot.specs.declared.Answer.{Answer}
+use Rattle.snapshot.specs.declared.Answer.the-variants as Answers
+use Rattle.snapshot.specs.declared.Outcome.{Outcome}
 use Rattle.snapshot.specs.declared.Request.{Request}
 use Rattle.admission.specs.Checks.{isRefusal}
 use Rattle.dayfile.specs.declared.Reading.{Reading}
 use Rattle.dayfile.specs.declared.Reading.the-variants.{Found, End, Refused}
-use Rattle.dayfile.specs.Reader.{reading}
+use Rattle.dayfile.specs.Reader.{reading, readerReply}
 use Rattle.dayfile.specs.Files.{readOn, readingsUpTo, readings}
 use Rattle.dayfile.specs.Pieces.{Piece, pieces}
 use Rattle.dayfile.proofs.Files.{readings-unfold}
@@ -21,7 +27,7 @@ use Rattle.dayfile.proofs.Pieces.{Cuts, over, found, broken, pieces-cut}
 use Rattle.days.specs.Happenings.{Box, blankBox, boxAfter, outcomeIn, Happening, happeningIn, happenings, fileOn, dayOf}
 use Rattle.days.proofs.Boxes.{unread-stays, answered-stays}
 use Rattle.mending.specs.Mending.{refusalBy, Part, judged, partsOf, bytesKept, keptOf, Drop, dropBy, dropsOf, mended, dropped}
-use Rattle.mending.specs.Claims.{Partition, refusalIn, Unrefused, remaining, runOf, accepted, boxPast, Mends}
+use Rattle.mending.specs.Claims.{Partition, numberBy, numbersIn, readThrough, runOf, refusalIn, accepted, boxPast, Mends}
 use Rattle.mending.specs.Claims as Claims
 
 -- ---- what is read is read again
@@ -127,6 +133,10 @@ kept-ends b (p ∷ ps) = go (refusalBy x (outcomeIn b x)) refl (kept-ends (boxAf
     go none q h = h
     go (some k) q h = ap (λ c. boxPast c (keptReadings (boxAfter b x) ps)) (sym (dropped-stays b x k q)) ∙ h
 
+-- none of them is refused
+abbrev Unrefused : List Happening → Type 0
+Unrefused hs = All (λ h. refusalIn h ≡ none) hs
+
 accepted-unrefused : (hs : List Happening) → Unrefused (accepted hs)
 accepted-unrefused [] = tt
 accepted-unrefused (h ∷ hs) = go (refusalIn h) refl (accepted-unrefused hs)
@@ -134,6 +144,54 @@ accepted-unrefused (h ∷ hs) = go (refusalIn h) refl (accepted-unrefused hs)
     go : (k : Option Refusal) → refusalIn h ≡ k → Unrefused (accepted hs) → Unrefused (cond (not (isRefusal k)) (h ∷ accepted hs) (accepted hs))
     go none q later = (q, later)
     go (some k) q later = later
+
+-- ---- the numbers of refusals
+
+abbrev numbersOf : Option Refusal → List ℕ
+numbersOf none = []
+numbersOf (some k) = numberOf k ∷ []
+
+-- what is printed is the number of the refusal
+number-is : (x : Reading) (o : Outcome) → numberBy (readerReply x) (replyOf [] (o .answer)) ≡ numbersOf (refusalBy x o)
+number-is (Found r next) o = go (o .answer)
+  where
+    go : (a : Answer) → numberBy (readerReply (Found r next)) (replyOf [] a) ≡ numbersOf (refusalOf a)
+    go (Answers.Refused k) = refl
+    go Answers.Opened = refl
+    go Answers.Called = refl
+    go Answers.Read = refl
+    go (Answers.Page lender at turns) = refl
+    go (Answers.Written turns) = refl
+number-is End o = refl
+number-is (Refused k) o = refl
+
+drops-numbered : (b : Box) (at : ℕ) (ps : List Piece) →
+    map (λ d. d .number) (dropsOf at (judged b ps)) ≡ numbersIn (happenings b (readingsIn ps))
+drops-numbered b at [] = refl
+drops-numbered b at (p ∷ ps) =
+    let x = p .reading in
+    go (refusalBy x (outcomeIn b x)) (dropsOf (at + length (p .bytes)) (judged (boxAfter b x) ps))
+    ∙ ap₂ (λ ns ms. ns ++ ms) (sym (number-is x (outcomeIn b x))) (drops-numbered (boxAfter b x) (at + length (p .bytes)) ps)
+  where
+    go : (k : Option Refusal) (ds : List Drop) →
+        map (λ d. d .number) (dropBy at (length (p .bytes)) k ++ ds) ≡ numbersOf k ++ map (λ d. d .number) ds
+    go none ds = refl
+    go (some k) ds = refl
+
+none-numbered : (hs : List Happening) → Unrefused hs → numbersIn hs ≡ []
+none-numbered [] u = refl
+none-numbered (h ∷ hs) u =
+    ap₂ (λ ns ms. ns ++ ms) (number-is (h .reading) (h .outcome) ∙ ap numbersOf (u .0)) (none-numbered hs (u .1))
+
+numbered-none : (hs : List Happening) → numbersIn hs ≡ [] → Unrefused hs
+numbered-none [] q = tt
+numbered-none (h ∷ hs) q =
+    let here = ap (λ ns. ns ++ numbersIn hs) (number-is (h .reading) (h .outcome)) in
+    go (refusalIn h) refl (sym here ∙ q) (numbered-none hs)
+  where
+    go : (k : Option Refusal) → refusalIn h ≡ k → numbersOf k ++ numbersIn hs ≡ [] → (numbersIn hs ≡ [] → Unrefused hs) → Unrefused (h ∷ hs)
+    go none e q later = (e, later q)
+    go (some k) e q later = absurd (let l = ap length q in omega arith)
 
 -- ---- a file that runs without refusal
 
@@ -155,18 +213,19 @@ unrefused-stays b at (broken p {k} {bs} l q c) u =
 
 -- ---- the claims
 
-pub whole-kept : (file : List ℕ) → Unrefused (dayOf file) → (mended file ≡ file) × (dropped file ≡ [])
+pub whole-kept : (file : List ℕ) → numbersIn (dayOf file) ≡ [] → (mended file ≡ file) × (dropped file ≡ [])
 unfolding partsOf dayOf
-whole-kept file u = unrefused-stays blankBox 0 (pieces-cut file) u
+whole-kept file q = unrefused-stays blankBox 0 (pieces-cut file) (numbered-none (dayOf file) q)
 
 pub day-mended : (file : List ℕ) → Mends file
 unfolding partsOf dayOf
 day-mended file =
     let read = kept-read blankBox (pieces-cut file) in
     let same = ap (happenings blankBox) read ∙ kept-happens blankBox (pieces file) in
-    let runs = subst Unrefused (sym same) (accepted-unrefused (runOf file)) in
+    let runs = ap numbersIn same ∙ none-numbered (accepted (runOf file)) (accepted-unrefused (runOf file)) in
     record {
       together = together blankBox 0 (pieces-cut file);
+      numbers = drops-numbered blankBox 0 (pieces file);
       unrefused = runs;
       same = same;
       ends = ap (boxPast blankBox) read ∙ kept-ends blankBox (pieces file);

@@ -3,12 +3,15 @@ use Prim.Native.Nat.{ℕ, suc, _+_, _<_}
 use mathlib.Core.Path.{_≡_}
 use mathlib.Core.Bool.{not}
 use mathlib.Core.List.{List, [], _∷_, _++_, map}
-use mathlib.Core.Option.{Option, none}
+use mathlib.Core.Option.{Option}
 use lib.ListN.{length}
-use Rattle.snapshot.specs.Lists.{keep, All}
+use Rattle.snapshot.specs.Lists.{keep}
+use Rattle.snapshot.specs.Replies as Replies
+use Rattle.snapshot.specs.Replies.{Reply, opened, called, read, page, written, replyOf}
 use Rattle.snapshot.specs.declared.Refusal.{Refusal}
 use Rattle.admission.specs.Checks.{isRefusal}
 use Rattle.dayfile.specs.declared.Reading.{Reading}
+use Rattle.dayfile.specs.Reader.{ReaderReply, found, ended, refused, readerReply}
 use Rattle.dayfile.specs.Files.{readings}
 use Rattle.dayfile.specs.Pieces.{pieces}
 use Rattle.days.specs.Happenings.{Box, blankBox, boxAfter, Happening, happenings, dayOf}
@@ -26,22 +29,32 @@ pub data Partition : (at : ℕ) → (file kept : List ℕ) → List Drop → Typ
 
 -- ---- runs
 
--- the refusal in what happened, if there is one
+-- the number that the day runner prints behind `refused` of what happened, if it does, by what the reader and the day replied
+abbrev pub numberBy : ReaderReply → Reply ℕ → List ℕ
+numberBy (found r bytes) (Replies.refused k) = k ∷ []
+numberBy (found r bytes) opened = []
+numberBy (found r bytes) called = []
+numberBy (found r bytes) read = []
+numberBy (found r bytes) (page lender at turns ws) = []
+numberBy (found r bytes) (written turns) = []
+numberBy ended reply = []
+numberBy (refused k) reply = k ∷ []
+
+abbrev pub numbersIn : List Happening → List ℕ
+numbersIn [] = []
+numbersIn (h ∷ hs) = numberBy (readerReply (h .reading)) (replyOf [] (h .outcome .answer)) ++ numbersIn hs
+
+-- what the reader answers in a file from end to end, and what happens where the records among it are run
+abbrev pub readThrough : List ℕ → List Reading
+readThrough file = map (λ p. p .reading) (pieces file)
+
+abbrev pub runOf : List ℕ → List Happening
+runOf file = happenings blankBox (readThrough file)
+
+-- "the .. accepted events": those without a refusal
 abbrev pub refusalIn : Happening → Option Refusal
 refusalIn h = refusalBy (h .reading) (h .outcome)
 
--- "runs without refusal"
-abbrev pub Unrefused : List Happening → Type 0
-Unrefused hs = All (λ h. refusalIn h ≡ none) hs
-
--- what the reader answers in a file from end to end, and what happens where the records that remain are run
-abbrev pub remaining : List ℕ → List Reading
-remaining file = map (λ p. p .reading) (pieces file)
-
-abbrev pub runOf : List ℕ → List Happening
-runOf file = happenings blankBox (remaining file)
-
--- "the .. accepted events"
 abbrev pub accepted : List Happening → List Happening
 accepted hs = keep (λ h. not (isRefusal (refusalIn h))) hs
 
@@ -55,10 +68,12 @@ boxPast b (x ∷ xs) = boxPast (boxAfter b x) xs
 pub record Mends (file : List ℕ) : Type 0 where
   -- "Kept and dropped bytes together are the file, in order"
   pub together : Partition 0 file (mended file) (dropped file)
-  -- "The written file runs without refusal", of the reader and of the day
-  pub unrefused : Unrefused (dayOf (mended file))
+  -- "refusal number, one entry a drop": one for each refusal of the reader and of the day, with its number
+  pub numbers : map (λ d. d .number) (dropped file) ≡ numbersIn (runOf file)
+  -- "The written file runs without refusal"
+  pub unrefused : numbersIn (dayOf (mended file)) ≡ []
   -- "and gives the same accepted events": the same records, answers, page words and days, and the same day and desk records at the end
   pub same : dayOf (mended file) ≡ accepted (runOf file)
-  pub ends : boxPast blankBox (readings (mended file)) ≡ boxPast blankBox (remaining file)
+  pub ends : boxPast blankBox (readings (mended file)) ≡ boxPast blankBox (readThrough file)
   -- "mending it again drops nothing", and gives the same bytes
   pub again : (mended (mended file) ≡ mended file) × (dropped (mended file) ≡ [])
