@@ -1,5 +1,6 @@
 /* A day for two desks: desk 1 writes 7 to its row, then desk 2 reads a page; after that both are at it
- * together, and have their turns in one run. It prints one line an answer, as the day runner does.
+ * together, and have their turns in one run. It prints one line an answer, as the day runner does. Then
+ * a day file that was damaged is mended and run: one line a drop, and what row 2 holds in the end.
  *
  *     cc -std=c99 -Wall -Wextra -pedantic -o example bindings/c/example.c target/staticlib/libnq.a */
 #include <inttypes.h>
@@ -77,6 +78,45 @@ static void run(const uint32_t desks[TURNS])
         print(desks[i], replies[i], &pages[i * PAGE]);
 }
 
+/* Mends a day file of two desks. Of the turns for desk 2's entry one is damaged, and at the end the file
+ * is cut off; the five turns that the entry needs are there. */
+static void mend(void)
+{
+    static const uint8_t file[] = {
+        4, 0, 1, 0, 2, 0,             /* opened for two desks */
+        8, 0, 2, 0, 2, 0, 9, 0, 0, 0, /* desk 2's call to enter 9 */
+        4, 0, 4, 0, 2, 0,             /* a turn of desk 2 */
+        4, 0, 4, 0, 2, 0,             /* another one */
+        4, 0, 4, 64, 2, 0,            /* one with a wrong bit, of a kind that is unknown */
+        4, 0, 4, 0, 2, 0,             /* a third one */
+        4, 0, 4, 0, 2, 0,             /* a fourth one */
+        4, 0, 4, 0, 2, 0,             /* a fifth one, which writes row 2 */
+        4, 0, 4, 0, 2, 0,             /* one too many */
+        4, 0, 3                       /* a call, cut off */
+    };
+    static uint8_t room[sizeof file];
+    static struct nq_drop rows[sizeof file / 2 + 1];
+    struct nq_mending mended;
+    struct nq_request request;
+    size_t i;
+
+    mended = nq_mend(file, sizeof file, room, sizeof room, rows, sizeof rows / sizeof rows[0]);
+    expect(mended.refusal == 0, "there is room for what is kept, and for a row a drop");
+    for (i = 0; i < mended.drops; i++)
+        printf("dropped %" PRIu64 " at %" PRIu64 " refused %" PRIu64 "\n", rows[i].count,
+               rows[i].first, rows[i].refusal);
+    expect(mended.drops == 3 && mended.kept == sizeof file - 15, "three drops have 15 bytes");
+
+    day.count = day.event = 0;
+    for (i = 0; i < mended.kept; i += request.next) {
+        request = nq_read(room + i, mended.kept - i);
+        day = nq_step(day.count, day.event, table, DESKS, request.kind, request.desk, request.word,
+                      page, PAGE);
+        expect(day.answer != NQ_REFUSED, "a mended file is run without a refusal");
+    }
+    printf("row 2 holds %" PRIu32 ", end %" PRIu32 "\n", table[1].row.word, day.event);
+}
+
 int main(void)
 {
     expect(nq_version() == NQ_VERSION, "the library has the version of the header");
@@ -119,5 +159,7 @@ int main(void)
     run((const uint32_t[TURNS]){1, 2, 1, 2, 1, 2, 1, 2, 1, 2});
     expect(table[0].row.word == 8 && day.event == 22, "row 1 is written, and nine turns had numbers");
     printf("end %" PRIu32 "\n", day.event);
+
+    mend();
     return 0;
 }

@@ -6,7 +6,7 @@
  * one instant between its call and its answer, however the turns of other desks fall between its own,
  * and how fresh each row was: the number of the event that last wrote it by that instant. A day has at
  * most 65,535 events, and a call is taken only if it and all calls under way can be ended within them.
- * example.c, beside this file, is a whole day.
+ * example.c, beside this file, is a whole day, and mends another.
  *
  * The caller keeps all that the register knows, and lends it to every request:
  *
@@ -18,19 +18,24 @@
  * Many turns can be given at once, as a run (nq_run), which takes a list of desks and, in place of a
  * page list, two tables for what the turns answer.
  *
+ * A day can also stand in a day file, one request after the other (nq_read). A file that was damaged
+ * is mended (nq_mend) on a day of its own.
+ *
  * The library keeps nothing between calls, allocates nothing and does no input or output. What it is
  * lent stays the caller's. Calls that are lent different things may run at once in any threads. It
- * needs memcpy and memset, and less than 8 KiB of stack.
+ * needs memcpy and memset and, beside what these take, less than 8 KiB of stack, nq_mend less than
+ * 24 KiB.
  *
  * The caller must hold to this, even for a request that will be refused:
  *
- *   - table, page, desks, replies, pages and bytes are not null and are aligned for their type, even
- *     if their length is 0;
+ *   - table, page, desks, replies, pages, bytes, room and rows are not null and are aligned for their
+ *     type, even if their length is 0;
  *   - table points to `records` whole records, page or pages to `words` words, desks to `turns` desk
- *     numbers, replies to `places` whole replies, bytes to `length` bytes, all initialised;
- *   - no two things that a call is lent overlap;
- *   - nobody else reads or writes table, page, replies or pages, or writes desks or bytes, during the
- *     call;
+ *     numbers, replies to `places` whole replies, bytes to `length` bytes, room to `places` bytes, rows
+ *     to `row_count` whole drops, all initialised;
+ *   - no two things that a call is lent overlap, so that no file is mended in its own place;
+ *   - nobody else reads or writes table, page, replies, pages, room or rows, or writes desks or bytes,
+ *     during the call;
  *   - nq_version() is NQ_VERSION: with a library of another version nothing here holds.
  *
  * Nothing else is asked. Every number and every word may be anything: what does not fit is refused,
@@ -47,10 +52,10 @@
 extern "C" {
 #endif
 
-/* Changes whenever a function, a parameter or the layout of a struct here does. Tables are kept for
- * one version. Those of versions 1 and 2, whose records have 208 words, cannot be taken over: a day
- * that was begun with one of these is ended with it. */
-#define NQ_VERSION 3
+/* Changes whenever a function, a parameter or the layout of a struct here does. Tables of version 3 are
+ * as those here, and a day that was begun with it goes on. Those of versions 1 and 2, whose records
+ * have 208 words, cannot be taken over: a day that was begun with one of these is ended with it. */
+#define NQ_VERSION 4
 
 #define NQ_MOST_DESKS 8
 #define NQ_LAST_EVENT 65535 /* the number of the last event that a day can have */
@@ -120,7 +125,7 @@ enum nq_answer {
  *
  * Where several apply, the first in this order is given. A kind that is none: 8. Opening: 10, 1, 6.
  * Call: 10, 6, 11, 2, 3, 5. Turn: 10, 6, 11, 2, 4. Run: 10, 6, 13. Day file: 7 if one byte is left, 9
- * if the length is outside 4 to 8, 7, 8, then 9. Nothing here is refused with 12.
+ * if the length is outside 4 to 8, 7, 8, then 9. Mending: 12, whatever is refused within the file.
  *
  * A page owes 2n*n turns and an entry 2n*n + 1, less the turns that it has had. It can end sooner. */
 enum nq_refusal {
@@ -146,6 +151,8 @@ enum nq_refusal {
                              number, the task is unknown, or it has had more than 2n*n - 1 turns, 2n*n
                              if it is an entry ready to write; or the event number and all turns owed
                              are more than 65,535. */
+    NQ_ROOM_SHORT = 12,   /* Mending is lent less room than the bytes that are kept, or fewer rows than
+                             there are drops. */
     NQ_TABLE_SHORT = 13   /* A run is lent fewer replies than it has turns, or fewer than 2n words of
                              pages for each turn. */
 };
@@ -218,6 +225,39 @@ struct nq_request {
  * length, which counts the bytes after itself, a kind, a desk and, for an entry, a word; the word has
  * 32 bits, anything else 16, all little-endian. */
 struct nq_request nq_read(const uint8_t *bytes, size_t length);
+
+/* Bytes of a damaged day file that are not kept. */
+struct nq_drop {
+    uint64_t first;   /* the place of the first one in the file, from 0 */
+    uint64_t count;   /* how many there are, one at least */
+    uint64_t refusal; /* why: NQ_CUT_SHORT, NQ_UNKNOWN_KIND or NQ_WRONG_LENGTH if they could not be
+                         read, else the refusal of the request that they are */
+};
+
+/* The reply to a mending. */
+struct nq_mending {
+    uint64_t kept;    /* how many bytes of room were written: the mended file */
+    uint64_t drops;   /* how many rows were written */
+    uint64_t refusal; /* NQ_ROOM_SHORT, the rest being 0: nothing was written; else 0 */
+};
+
+/* Mends a day file that was damaged. It is read from end to end. What cannot be read is dropped: with 8
+ * or 9 the two bytes of the length and as many as they say, or all that is left if fewer, and reading
+ * goes on behind them; with 7 all that is left. Every other request is asked, in order, of a day that
+ * is blank at first, and dropped if it is refused there. The bytes of the others are kept unchanged and
+ * laid into room one after the other, from its first byte on, and a row for each drop into rows, in the
+ * order of their first bytes. Later bytes of room and later rows stay.
+ *
+ * Kept and dropped bytes together are the file, in order. What is kept is a day file that is run
+ * without a refusal and has the same accepted events, with the same answers; mended again, nothing of
+ * it is dropped.
+ *
+ * Only 12 refuses a mending, before anything is written. `length` bytes of room and length / 2 + 1 rows
+ * are always enough, as every drop has two bytes or more, but the last may have one. With so much the
+ * file is run once, with less twice, first to count. It may have any length; mending takes time in
+ * proportion to it. */
+struct nq_mending nq_mend(const uint8_t *bytes, size_t length, uint8_t *room, size_t places,
+                          struct nq_drop *rows, size_t row_count);
 
 /* The version of the library. */
 uint32_t nq_version(void);

@@ -1,7 +1,7 @@
 /* Holds nelvaquist.h to what the library does. Days are driven through it, every request in both
  * ways, by its kind and by its own function, every run also turn by turn, and what it leaves is
  * compared in every word with what is wanted, which is put by the names of the header and worked out
- * by hand.
+ * by hand. So are mended files, in rooms of several sizes.
  *
  *     cc -std=c99 -Wall -Wextra -pedantic -o test bindings/c/test.c target/staticlib/libnq.a */
 #include <stdio.h>
@@ -15,8 +15,24 @@
 #define PAGE (2 * ROOM) /* more page words than any day needs; those that are not lent stay */
 #define NO_WORD 77      /* the word of a request that has none */
 #define LIST 14         /* more turns than any run has; replies and pages that are not lent stay */
+#define MOST 394000     /* more bytes than any mended file has; those that are not lent stay */
+#define ROWS 40         /* more rows than any mended file has drops; those that are not lent stay */
 
 #define CHECK(holds) check(holds, #holds, __LINE__)
+
+/* The records of a day file, of numbers below 256. */
+#define OPEN(desks) 4, 0, 1, 0, desks, 0
+#define ENTRY(desk, word) 8, 0, 2, 0, desk, 0, word, 0, 0, 0
+#define ASK(desk) 4, 0, 3, 0, desk, 0
+#define TURN(desk) 4, 0, 4, 0, desk, 0
+
+/* Bytes or drops, and how many they are. */
+#define BYTES(...) (const uint8_t[]){__VA_ARGS__}, sizeof(const uint8_t[]){__VA_ARGS__}
+#define NO_BYTES (const uint8_t[]){0}, 0
+#define DROPS(...)                    \
+    (const struct nq_drop[]){__VA_ARGS__}, \
+        sizeof(const struct nq_drop[]){__VA_ARGS__} / sizeof(struct nq_drop)
+#define NO_DROPS (const struct nq_drop[]){{0, 0, 0}}, 0
 
 struct state {
     uint32_t count, event;   /* the day */
@@ -33,9 +49,25 @@ struct run {
     uint32_t pages[LIST * PAGE];
 };
 
+/* What a mending is lent beside the file. */
+struct rooms {
+    size_t places, row_count; /* how much of both is lent */
+    uint8_t room[MOST];
+    struct nq_drop rows[ROWS];
+};
+
+/* What a file is mended to. */
+struct mended {
+    const uint8_t *kept;
+    size_t length; /* of what is kept */
+    const struct nq_drop *drops;
+    size_t count; /* of the drops */
+};
+
 static struct state now;    /* what the requests have left */
 static struct state wanted; /* what they should have left */
 static struct run lent;     /* what a run has left */
+static struct rooms rooms;  /* what a mending has left */
 
 /* Answers that have nothing more. */
 static const struct nq_reply opened = {.answer = NQ_OPENED};
@@ -285,13 +317,17 @@ static int refuses_turns(uint32_t refusal)
     return 1;
 }
 
-/* Every field is of words and has its place among them, and nothing is padded. */
+/* Every field is of words, or of numbers of 64 bits, and has its place among them, and nothing is
+ * padded. */
 static void places(void)
 {
     struct nq_desk desk;
     struct nq_reply reply;
     struct nq_request request;
+    struct nq_drop drop;
+    struct nq_mending mending;
     const uint32_t *word = &desk.row.word;
+    const uint64_t *number;
 
     CHECK(&desk.row.last == word + 1 && &desk.row.seq == word + 2);
     CHECK(&desk.row.view[0].word == word + 3 && &desk.row.view[0].last == word + 4);
@@ -310,6 +346,11 @@ static void places(void)
     CHECK(&request.word == word + 3 && &request.next == word + 4);
     CHECK(sizeof desk == 4 * RECORD_WORDS && sizeof reply == 4 * 7 && sizeof request == 4 * 5);
     CHECK(sizeof desk.row == 4 * 20 && sizeof desk.row.view[0] == 4 * 2);
+    number = &drop.first;
+    CHECK(&drop.count == number + 1 && &drop.refusal == number + 2 && sizeof drop == 8 * 3);
+    number = &mending.kept;
+    CHECK(&mending.drops == number + 1 && &mending.refusal == number + 2);
+    CHECK(sizeof mending == 8 * 3);
 }
 
 /* Opens a day for two desks. Events 1 to 18: desks 1, 2 and 1 again write their rows. */
@@ -799,6 +840,193 @@ static void day_files_refused(void)
     CHECK(file_refused(NQ_WRONG_LENGTH, 10, (uint8_t[]){8, 0, 4, 0, 1, 0, 7, 0, 0, 0}));
 }
 
+/* Lends a mending so much, whatever stands in it. */
+static void lend_rooms(size_t places, size_t row_count)
+{
+    memset(&rooms, 0xa5, sizeof rooms);
+    rooms.places = places;
+    rooms.row_count = row_count;
+}
+
+/* Mends a file. Whether that is replied, and leaves these rooms in every byte. */
+static int mending_leaves(struct nq_mending reply, const uint8_t *file, size_t length,
+                          const struct rooms *left)
+{
+    struct nq_mending mending =
+        nq_mend(file, length, rooms.room, rooms.places, rooms.rows, rooms.row_count);
+
+    return memcmp(&mending, &reply, sizeof reply) == 0 && memcmp(&rooms, left, sizeof rooms) == 0;
+}
+
+/* Whether a file is mended so where so much is lent, and later places stay. */
+static int mends_into(const uint8_t *file, size_t length, struct mended mended, size_t places,
+                      size_t row_count)
+{
+    static struct rooms left;
+    struct nq_mending reply = {.kept = mended.length, .drops = mended.count};
+
+    lend_rooms(places, row_count);
+    left = rooms;
+    memcpy(left.room, mended.kept, mended.length);
+    memcpy(left.rows, mended.drops, mended.count * sizeof left.rows[0]);
+    return mending_leaves(reply, file, length, &left);
+}
+
+/* Whether mending a file is refused where so much is lent, and changes nothing. */
+static int refuses_rooms(const uint8_t *file, size_t length, size_t places, size_t row_count)
+{
+    static struct rooms left;
+    struct nq_mending reply = {.refusal = NQ_ROOM_SHORT};
+
+    lend_rooms(places, row_count);
+    left = rooms;
+    return mending_leaves(reply, file, length, &left);
+}
+
+/* Whether a file is mended so where just enough is lent, more of either or of both, and as much as is
+ * always enough; and what is kept is itself mended without a drop. */
+static int mends_with_room(const uint8_t *file, size_t length, struct mended mended)
+{
+    struct mended again = {mended.kept, mended.length, mended.drops, 0};
+
+    return mends_into(file, length, mended, mended.length, mended.count) &&
+           mends_into(file, length, mended, mended.length + 1, mended.count) &&
+           mends_into(file, length, mended, mended.length, mended.count + 1) &&
+           mends_into(file, length, mended, MOST, ROWS) &&
+           mends_into(file, length, mended, length, mended.count) &&
+           (length / 2 >= ROWS || mends_into(file, length, mended, length, length / 2 + 1)) &&
+           mends_into(mended.kept, mended.length, again, mended.length, 0);
+}
+
+/* Whether mending a file is refused for want of a byte, a row, both or all. */
+static int needs_room(const uint8_t *file, size_t length, size_t kept, size_t drops)
+{
+    return (kept == 0 || refuses_rooms(file, length, kept - 1, drops)) &&
+           (kept == 0 || refuses_rooms(file, length, kept - 1, ROWS)) &&
+           (drops == 0 || refuses_rooms(file, length, kept, drops - 1)) &&
+           (drops == 0 || refuses_rooms(file, length, MOST, drops - 1)) &&
+           (kept == 0 || drops == 0 || refuses_rooms(file, length, kept - 1, drops - 1)) &&
+           (kept + drops == 0 || refuses_rooms(file, length, 0, 0));
+}
+
+/* Whether a file is mended to these bytes, with these drops. */
+static int mends(const uint8_t *file, size_t length, const uint8_t *kept, size_t kept_length,
+                 const struct nq_drop *drops, size_t count)
+{
+    struct mended mended = {kept, kept_length, drops, count};
+
+    return mends_with_room(file, length, mended) && needs_room(file, length, kept_length, count);
+}
+
+/* Whether nothing is dropped from a file. */
+static int keeps(const uint8_t *file, size_t length)
+{
+    return mends(file, length, file, length, NO_DROPS);
+}
+
+/* Files without a byte, and without damage. */
+static void undamaged_files(void)
+{
+    CHECK(keeps(NO_BYTES));
+    CHECK(keeps(BYTES(OPEN(8))));
+    CHECK(keeps(BYTES(OPEN(2), ASK(2), TURN(2), ENTRY(1, 7), TURN(1), TURN(2))));
+    CHECK(keeps(BYTES(OPEN(1), ENTRY(1, 7), TURN(1), TURN(1), TURN(1), ASK(1), TURN(1), TURN(1))));
+}
+
+/* Ends within a record, and bytes of unknown kinds and wrong lengths: each is dropped with as many
+ * bytes as it has, and what stands behind it is kept. */
+static void unreadable_bytes(void)
+{
+    CHECK(mends(BYTES(4), NO_BYTES, DROPS({0, 1, 7})));
+    CHECK(mends(BYTES(OPEN(1), 0), BYTES(OPEN(1)), DROPS({6, 1, 7})));
+    CHECK(mends(BYTES(OPEN(1), 4, 0), BYTES(OPEN(1)), DROPS({6, 2, 7})));
+    CHECK(mends(BYTES(OPEN(1), 8, 0, 2, 0, 1, 0, 7, 0, 0), BYTES(OPEN(1)), DROPS({6, 9, 7})));
+    CHECK(mends(BYTES(OPEN(1), 5, 0, 9, 0, 1, 0), BYTES(OPEN(1)), DROPS({6, 6, 7})));
+
+    CHECK(mends(BYTES(4, 0, 9, 0, 1, 0), NO_BYTES, DROPS({0, 6, 8})));
+    CHECK(mends(BYTES(OPEN(1), 5, 0, 0, 0, 1, 0, 9, ASK(1)), BYTES(OPEN(1), ASK(1)),
+                DROPS({6, 7, 8})));
+    CHECK(mends(BYTES(OPEN(1), 8, 0, 2, 1, 1, 0, 7, 0, 0, 0, ASK(1)), BYTES(OPEN(1), ASK(1)),
+                DROPS({6, 10, 8})));
+
+    CHECK(mends(BYTES(OPEN(2), 4, 0, 2, 0, 1, 0, ASK(1)), BYTES(OPEN(2), ASK(1)),
+                DROPS({6, 6, 9})));
+    CHECK(mends(BYTES(OPEN(2), ASK(1), 8, 0, TURN(1), 0, 0), BYTES(OPEN(2), ASK(1)),
+                DROPS({12, 10, 9})));
+    CHECK(mends(BYTES(OPEN(1), 1, 0, 4, ASK(1), 3, 0, 4, 0, 4, TURN(1)),
+                BYTES(OPEN(1), ASK(1), TURN(1)), DROPS({6, 3, 9}, {15, 5, 9})));
+    CHECK(mends(BYTES(OPEN(1), 9, 0, 4, 0, 4, 0, 1, 0, 4, 0, 4, ASK(1)), BYTES(OPEN(1), ASK(1)),
+                DROPS({6, 11, 9})));
+}
+
+/* Lengths of 0, which drop two bytes each: as many drops as there can be, with and without a byte that
+ * is left. */
+static void lengths_of_0(void)
+{
+    CHECK(mends(BYTES(0, 0), NO_BYTES, DROPS({0, 2, 9})));
+    CHECK(mends(BYTES(OPEN(1), 0, 0, ASK(1)), BYTES(OPEN(1), ASK(1)), DROPS({6, 2, 9})));
+    CHECK(mends(BYTES(0, 0, 0, 0, 0, 0), NO_BYTES, DROPS({0, 2, 9}, {2, 2, 9}, {4, 2, 9})));
+    CHECK(mends(BYTES(0, 0, 0, 0, 0), NO_BYTES, DROPS({0, 2, 9}, {2, 2, 9}, {4, 1, 7})));
+}
+
+/* Lengths that say just what is left, one byte more, one fewer, and as many as they can. */
+static void lengths_past_the_end(void)
+{
+    static uint8_t file[6 + 2 + 65535 + 6] = {OPEN(1), 255, 255};
+
+    CHECK(mends(BYTES(OPEN(1), 12, 0, ASK(1), TURN(1)), BYTES(OPEN(1)), DROPS({6, 14, 9})));
+    CHECK(mends(BYTES(OPEN(1), 13, 0, ASK(1), TURN(1)), BYTES(OPEN(1)), DROPS({6, 14, 9})));
+    CHECK(mends(BYTES(OPEN(1), 11, 0, ASK(1), TURN(1)), BYTES(OPEN(1)),
+                DROPS({6, 13, 9}, {19, 1, 7})));
+    CHECK(mends(BYTES(OPEN(1), 255, 255, ASK(1)), BYTES(OPEN(1)), DROPS({6, 8, 9})));
+    CHECK(mends(BYTES(OPEN(1), 1, 0), BYTES(OPEN(1)), DROPS({6, 2, 9})));
+
+    memcpy(file + sizeof file - 6, (const uint8_t[]){ASK(1)}, 6);
+    CHECK(mends(file, sizeof file, BYTES(OPEN(1), ASK(1)), DROPS({6, 65537, 9})));
+}
+
+/* Requests that are refused, each with its number. */
+static void records_refused_in_files(void)
+{
+    CHECK(mends(BYTES(OPEN(9), OPEN(0), OPEN(1)), BYTES(OPEN(1)), DROPS({0, 6, 1}, {6, 6, 1})));
+    CHECK(mends(BYTES(TURN(1), OPEN(2), ASK(1), OPEN(2), TURN(1)),
+                BYTES(OPEN(2), ASK(1), TURN(1)), DROPS({0, 6, 10}, {18, 6, 10})));
+    CHECK(mends(BYTES(OPEN(2), ASK(3), ENTRY(0, 7), TURN(3), ASK(2)), BYTES(OPEN(2), ASK(2)),
+                DROPS({6, 6, 2}, {12, 10, 2}, {22, 6, 2})));
+    CHECK(mends(BYTES(OPEN(1), ASK(1), ENTRY(1, 7), ASK(1), TURN(1)),
+                BYTES(OPEN(1), ASK(1), TURN(1)), DROPS({12, 10, 3}, {22, 6, 3})));
+    CHECK(mends(BYTES(OPEN(1), ASK(1), TURN(1), TURN(1), TURN(1)),
+                BYTES(OPEN(1), ASK(1), TURN(1), TURN(1)), DROPS({24, 6, 4})));
+}
+
+/* What is dropped is not asked, so that more is refused behind it: turns of a call whose kind is damaged,
+ * a call where the last turn of the one before is, and everything where the opening is lost or a byte
+ * of it. */
+static void damage_that_goes_on(void)
+{
+    CHECK(mends(BYTES(OPEN(1), 8, 0, 2, 1, 1, 0, 7, 0, 0, 0, TURN(1), TURN(1), ASK(1), 7),
+                BYTES(OPEN(1), ASK(1)),
+                DROPS({6, 10, 8}, {16, 6, 4}, {22, 6, 4}, {34, 1, 7})));
+    CHECK(mends(BYTES(OPEN(1), ASK(1), TURN(1), 4, 0, 6, 0, 1, 0, ASK(1), TURN(1)),
+                BYTES(OPEN(1), ASK(1), TURN(1), TURN(1)), DROPS({18, 6, 8}, {24, 6, 3})));
+    CHECK(mends(BYTES(ASK(1), TURN(1)), NO_BYTES, DROPS({0, 6, 10}, {6, 6, 10})));
+    CHECK(mends(BYTES(0, 1, 0, 2, 0, ASK(1), TURN(1)), NO_BYTES, DROPS({0, 17, 9})));
+}
+
+/* A full day of pages, with calls and a turn behind it. */
+static void full_day_file(void)
+{
+    static uint8_t file[6 + 6 * NQ_LAST_EVENT + 22] = {OPEN(1)};
+    size_t i, day = 6 + 6 * NQ_LAST_EVENT;
+
+    for (i = 6; i < day; i += 18)
+        memcpy(file + i, (const uint8_t[]){ASK(1), TURN(1), TURN(1)}, 18);
+    memcpy(file + day, (const uint8_t[]){ASK(1), ENTRY(1, 7), TURN(1)}, 22);
+    CHECK(keeps(file, day));
+    CHECK(mends(file, sizeof file, file, day,
+                DROPS({day, 6, NQ_DAY_FULL}, {day + 6, 10, NQ_DAY_FULL}, {day + 16, 6, NQ_DESK_IDLE})));
+}
+
 int main(void)
 {
     CHECK(nq_version() == NQ_VERSION);
@@ -824,6 +1052,13 @@ int main(void)
     run_of_too_many_desks();
     day_file();
     day_files_refused();
+    undamaged_files();
+    unreadable_bytes();
+    lengths_of_0();
+    lengths_past_the_end();
+    records_refused_in_files();
+    damage_that_goes_on();
+    full_day_file();
     printf("the library does what the header says\n");
     return 0;
 }

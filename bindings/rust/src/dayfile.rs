@@ -2,7 +2,7 @@ use crate::{library, other_version, Refusal, Request};
 use std::iter::FusedIterator;
 
 /// The requests of a day file, in order. A record that cannot be read gives its refusal, 7, 8 or 9,
-/// and ends the file.
+/// and ends the file; [`mend`](crate::mend) goes on behind it.
 ///
 /// A record is a length, which counts the bytes after itself, a kind, a desk and, for an entry, a
 /// word; the word has 32 bits, anything else 16, all little-endian. The kinds are 1 opening, with

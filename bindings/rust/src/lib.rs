@@ -88,8 +88,29 @@
 //! rules, but never make the register touch anything else. Pages are true on a day that grew from
 //! an opening and was kept as it was left.
 //!
-//! Records are kept for one version of the library. Those of versions 1 and 2, which are shorter,
-//! cannot be taken up: a day that was begun with one of these is ended with it.
+//! Records of version 3 of the library are as those of version 4, which this crate is for. Those of
+//! versions 1 and 2, which are shorter, cannot be taken up: a day that was begun with one of these is
+//! ended with it.
+//!
+//! # Day files
+//!
+//! A day can also stand in a file, one request after the other, which [`DayFile`] reads. If the file
+//! was damaged, [`mend`] keeps of it what can be read and is not refused, and tells what it drops.
+//!
+//! ```
+//! use nelvaquist::{mend, Dropped, Refusal};
+//!
+//! // Desk 1 asks for a page and has two turns; the kind of the second is damaged.
+//! let file = [
+//!     4, 0, 1, 0, 2, 0, // opens for 2 desks
+//!     4, 0, 3, 0, 1, 0, // a page call of desk 1
+//!     4, 0, 4, 0, 1, 0, // a turn
+//!     4, 0, 4, 9, 1, 0, // another one
+//! ];
+//! let mended = mend(&file);
+//! assert_eq!(mended.kept, &file[..18]);
+//! assert_eq!(mended.dropped, [Dropped { first: 18, count: 6, refusal: Refusal::UnknownKind }]);
+//! ```
 //!
 //! # The library
 //!
@@ -110,12 +131,14 @@ compile_error!("libnq.a is for x86-64 Linux, with pointers of 64 bits");
 mod answer;
 mod dayfile;
 mod library;
+mod mending;
 mod record;
 mod refusal;
 mod register;
 
 pub use answer::{Answer, Page};
 pub use dayfile::DayFile;
+pub use mending::{mend, mend_into, Dropped, Mended};
 pub use record::{Record, Task};
 pub use refusal::Refusal;
 pub use register::{Register, Request};

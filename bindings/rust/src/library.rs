@@ -6,7 +6,7 @@
 use crate::{other_version, Record};
 
 /// The version of the library that everything here is written for.
-const VERSION: u32 = 3;
+const VERSION: u32 = 4;
 
 /// What a request was answered, and the day after it.
 #[derive(Clone, Default)]
@@ -29,6 +29,17 @@ pub(crate) struct Reading {
     pub(crate) desk: u32,
     pub(crate) word: u32,
     pub(crate) next: u32,
+}
+
+/// A drop of a day file: its first byte, its byte count and the number of its refusal.
+pub(crate) type Row = [u64; 3];
+
+/// What a mending came to.
+#[repr(C)]
+pub(crate) struct Mending {
+    pub(crate) kept: u64,
+    pub(crate) drops: u64,
+    pub(crate) refusal: u64,
 }
 
 extern "C" {
@@ -60,6 +71,15 @@ extern "C" {
     ) -> Reply;
 
     fn nq_read(bytes: *const u8, length: usize) -> Reading;
+
+    fn nq_mend(
+        bytes: *const u8,
+        length: usize,
+        room: *mut u8,
+        places: usize,
+        rows: *mut Row,
+        row_count: usize,
+    ) -> Mending;
 }
 
 /// Returns only if the library is of this version. One of another may lay records out otherwise,
@@ -135,4 +155,23 @@ pub(crate) fn read(bytes: &[u8]) -> Reading {
     // initialised, not null even if empty, holds as many bytes as is said, and is not written
     // meanwhile. The library only reads it, and keeps no pointer.
     unsafe { nq_read(bytes.as_ptr(), bytes.len()) }
+}
+
+/// Mends a day file. What is kept is put in the room, and its drops in the rows.
+pub(crate) fn mend(bytes: &[u8], room: &mut [u8], rows: &mut [Row]) -> Mending {
+    see_version();
+    // SAFETY: as for a record that is read. The other two slices, borrowed mutably, are initialised,
+    // aligned and not null, even if empty, hold as many elements as is said, overlap nothing and are
+    // used by nobody else meanwhile. The library touches nothing outside of them and keeps no pointer,
+    // and any bytes and numbers that it leaves are valid.
+    unsafe {
+        nq_mend(
+            bytes.as_ptr(),
+            bytes.len(),
+            room.as_mut_ptr(),
+            room.len(),
+            rows.as_mut_ptr(),
+            rows.len(),
+        )
+    }
 }

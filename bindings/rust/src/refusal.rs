@@ -38,6 +38,9 @@ pub enum Refusal {
     /// turns than any can need; or the calls under way can need more turns than the day has events
     /// left.
     CannotArise = 11,
+    /// 12: mending a day file is lent less room than the bytes that are kept, or fewer places than
+    /// there are drops. Only [`mend_into`](crate::mend_into) is refused with it.
+    RoomShort = 12,
     /// 13: a run of turns is lent too few places for its answers or its pages. Only
     /// [`Register::run_into`](crate::Register::run_into) is refused with it.
     TableShort = 13,
@@ -65,6 +68,7 @@ impl Refusal {
             9 => Refusal::WrongLength,
             10 => Refusal::OpenState,
             11 => Refusal::CannotArise,
+            12 => Refusal::RoomShort,
             13 => Refusal::TableShort,
             _ => return None,
         })
@@ -94,6 +98,7 @@ impl fmt::Display for Refusal {
                 "an opening of an open day, or another request before the opening"
             }
             Refusal::CannotArise => "the day cannot have arisen",
+            Refusal::RoomShort => "the room for a mended day file or its drops is too short",
             Refusal::TableShort => "the tables of a run of turns are too short",
         })
     }

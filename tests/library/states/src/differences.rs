@@ -1,4 +1,5 @@
-//! What differs between two outcomes, and the state and request or run of it, to be read by people.
+//! What differs between two outcomes, and the state and request or run or the file of it, to be read by
+//! people.
 
 use crate::damage::MOST_RECORDS;
 use crate::record::*;
@@ -47,6 +48,35 @@ pub fn run_differences(model: &Ran, library: &Ran) -> Vec<String> {
         }
     }
     lines
+}
+
+/// All that the library did otherwise than the model in a mending.
+pub fn mend_differences(model: &Mending, library: &Mending) -> Vec<String> {
+    let mut lines = Vec::new();
+    if model.reply != library.reply {
+        lines.push(format!("reply: model {:?}, library {:?}", model.reply, library.reply));
+    }
+    for (i, (one, other)) in model.rooms.room.iter().zip(&library.rooms.room).enumerate() {
+        if one != other {
+            lines.push(format!("room, byte {i}: model {one}, library {other}"));
+        }
+    }
+    for (i, (one, other)) in model.rooms.rows.iter().zip(&library.rooms.rows).enumerate() {
+        for word in (0..one.len()).filter(|&word| one[word] != other[word]) {
+            let (what, one, other) = (ROW_NAMES[word], one[word], other[word]);
+            lines.push(format!("row {i}, {what}: model {one}, library {other}"));
+        }
+    }
+    lines
+}
+
+/// A file and what is lent beside it: all of it, but of much only the first.
+pub fn mend_lines(file: &[u8], rooms: &Rooms) -> String {
+    let (bytes, room, rows) = (some(file), some(&rooms.room), some(&rooms.rows));
+    let (length, places, count) = (file.len(), rooms.room.len(), rooms.rows.len());
+    format!(
+        "file of {length} bytes: {bytes}\n{places} bytes of room: {room}\n{count} rows: {rows}\n"
+    )
 }
 
 /// A run: all of its words, but of a long one only the first.

@@ -1,5 +1,5 @@
-//! The library itself, by its C interface. What is lent to it lies between guards, so that a word
-//! written outside is seen.
+//! The library itself, by its C interface. What is lent to it lies between guards, so that a word or a
+//! byte written outside is seen.
 
 use states::record::{Words, WORDS};
 use states::state::*;
@@ -7,6 +7,9 @@ use states::state::*;
 /// Records beside a lent table, words beside a lent page list and so on, on each side.
 const BESIDE: usize = 2;
 const GUARD: u32 = 0x5eed_cafe;
+
+/// Bytes beside lent bytes, more than a record has.
+const BYTES_BESIDE: usize = 16;
 
 #[repr(C)]
 #[derive(Default)]
@@ -27,6 +30,13 @@ struct RawRecord {
     process: u32,
     word: u32,
     next: u32,
+}
+
+#[repr(C)]
+struct RawMending {
+    kept: u64,
+    drops: u64,
+    refusal: u64,
 }
 
 extern "C" {
@@ -74,6 +84,14 @@ extern "C" {
         words: usize,
     ) -> RawReply;
     fn nq_read(bytes: *const u8, length: usize) -> RawRecord;
+    fn nq_mend(
+        bytes: *const u8,
+        length: usize,
+        room: *mut u8,
+        places: usize,
+        rows: *mut Row,
+        row_count: usize,
+    ) -> RawMending;
 }
 
 impl RawReply {
@@ -87,26 +105,32 @@ impl RawReply {
 struct Guarded<T> {
     all: Vec<T>,
     guard: T,
+    beside: usize,
 }
 
 impl<T: Copy + PartialEq> Guarded<T> {
     fn new(lent: &[T], guard: T) -> Self {
-        let beside = [guard; BESIDE];
-        Guarded { all: [&beside, lent, &beside].concat(), guard }
+        Guarded::with(lent, guard, BESIDE)
+    }
+
+    /// Between so many guards on each side.
+    fn with(lent: &[T], guard: T, beside: usize) -> Self {
+        let guards = vec![guard; beside];
+        Guarded { all: [&guards, lent, &guards].concat(), guard, beside }
     }
 
     fn lend(&mut self) -> (*mut T, usize) {
-        let inner = BESIDE..self.all.len() - BESIDE;
+        let inner = self.beside..self.all.len() - self.beside;
         (self.all[inner.clone()].as_mut_ptr(), inner.len())
     }
 
     /// What was lent, if no guard was written over.
     fn back(self, called: &str) -> Result<Vec<T>, String> {
-        let end = self.all.len() - BESIDE;
-        let mut beside = self.all[..BESIDE].iter().chain(&self.all[end..]);
+        let end = self.all.len() - self.beside;
+        let mut beside = self.all[..self.beside].iter().chain(&self.all[end..]);
         match beside.any(|guard| *guard != self.guard) {
-            true => Err(format!("a word beside the {called} was written")),
-            false => Ok(self.all[BESIDE..end].to_vec()),
+            true => Err(format!("something beside the {called} was written")),
+            false => Ok(self.all[self.beside..end].to_vec()),
         }
     }
 }
@@ -214,4 +238,22 @@ pub fn read(bytes: &[u8], after: u8) -> Found {
     let raw = unsafe { nq_read(lent.as_ptr(), bytes.len()) };
     let RawRecord { refusal, kind, process, word, next } = raw;
     Found { refusal, kind, process, word, next }
+}
+
+/// A mending by `nq_mend`. `beside` stands before and behind the bytes that are lent.
+pub fn mend(file: &[u8], beside: u8, rooms: &Rooms) -> Result<Mending, String> {
+    let mut bytes = Guarded::with(file, beside, BYTES_BESIDE);
+    let mut room = Guarded::with(&rooms.room, GUARD as u8, BYTES_BESIDE);
+    let mut rows = Guarded::new(&rooms.rows, [GUARD.into(); 3]);
+    let (lent, length) = bytes.lend();
+    let (kept, places) = room.lend();
+    let (drops, row_count) = rows.lend();
+    // SAFETY: all three are of these lengths, aligned, not null and apart from each other.
+    let raw = unsafe { nq_mend(lent, length, kept, places, drops, row_count) };
+    if bytes.back("file")? != file {
+        return Err("the file was written".to_string());
+    }
+    let RawMending { kept, drops, refusal } = raw;
+    let rooms = Rooms { room: room.back("room")?, rows: rows.back("rows")? };
+    Ok(Mending { reply: MendReply { kept, drops, refusal }, rooms })
 }

@@ -1,22 +1,26 @@
-//! Drives the library and the model with the same requests and runs of turns, and compares the
-//! answer, the day, every word of every record and every word of the page list, or of a run's two
-//! tables: `states [--follow] [STATES [SEED]]`. First every reading turn that there is, then that many
-//! states, then some long runs. State k of a seed is state 1 of that seed plus k - 1. With --follow,
-//! every state and request or run is printed before the library gets it, for a library that does not
-//! come back.
+//! Drives the library and the model with the same requests, runs of turns and files to be mended, and
+//! compares the answer, the day, every word of every record and every word of the page list, or of a
+//! run's two tables, or every byte and row that mending is lent: `states [--follow] [STATES [SEED]]`.
+//! First every reading turn that there is and the files worked out by hand, then that many states, then
+//! some long runs and files. State k of a seed is state 1 of that seed plus k - 1. With --follow, every
+//! state and request or run and every file is printed before the library gets it, for a library that
+//! does not come back.
 
 mod library;
 
 use model::days::random_day;
+use model::mend_examples::EXAMPLES;
+use model::mending::Mended;
 use model::random::Random;
 use model::register::{most_reads, PLACES};
+use model::text::to_bytes;
 use states::damage::{self, page_list};
 use states::differences::*;
 use states::reached::Counts;
 use states::record::{Words, ENTRY, PAGE};
 use states::state::*;
-use states::wanted::{found, wanted, wanted_run};
-use states::{bytes, requests, runs};
+use states::wanted::{found, wanted, wanted_mending, wanted_run};
+use states::{bytes, mends, requests, runs};
 use std::process::ExitCode;
 use std::time::Instant;
 
@@ -28,6 +32,10 @@ const GROWN: usize = 100;
 
 /// With one state in so many there is a day on which all desks have called, and a run to its end.
 const ENDED: usize = 30;
+
+/// With one state in so many there is a file to be mended, in so many rooms of different sizes.
+const MENDED: usize = 8;
+const ROOMS: usize = 4;
 
 type Checked = Result<(), String>;
 
@@ -45,10 +53,11 @@ fn main() -> ExitCode {
     let reached = driver.counts.reached();
     print!("{reached}");
     let missing = reached.missing();
-    let Driver { requests, accepted, runs, turns, .. } = driver;
+    let Driver { requests, accepted, runs, turns, files, mendings, .. } = driver;
     let seconds = started.elapsed().as_secs_f64();
     println!("{states} states of seed {seed}, {requests} requests, {accepted} of them accepted");
-    println!("{runs} runs, {turns} turns in those not refused, {seconds:.1} s");
+    println!("{runs} runs, {turns} turns in those not refused");
+    println!("{files} files, {mendings} mendings, {seconds:.1} s");
     // One state seen again need not reach everything.
     if states > 1 && !missing.is_empty() {
         println!("not reached: {}", missing.join("; "));
@@ -78,18 +87,22 @@ struct Driver {
     accepted: u64,
     runs: u64,
     turns: usize,
+    files: u64,
+    mendings: u64,
 }
 
 impl Driver {
-    /// Every reading turn, so many states, and the long runs.
+    /// Every reading turn, the files worked out by hand, so many states, and the long runs and files.
     fn all(&mut self, states: u64, seed: u64) -> Checked {
         let again = |why, seed| format!("{why}\nto see it again: states 1 {seed}");
         self.reading_turns(seed).map_err(|why| again(why, seed))?;
+        self.examples(seed).map_err(|why| again(why, seed))?;
         for k in 0..states {
             let seed = seed.wrapping_add(k);
             self.one(seed).map_err(|why| again(why, seed))?;
         }
-        self.long_runs(seed).map_err(|why| again(why, seed))
+        self.long_runs(seed).map_err(|why| again(why, seed))?;
+        self.long_files(seed).map_err(|why| again(why, seed))
     }
 
     /// Each of the 2n² reading turns of a page and of an entry, for every n.
@@ -126,6 +139,33 @@ impl Driver {
         self.check_run(&state, &run).map(|_| ())
     }
 
+    /// The files that the model's tests have worked out by hand.
+    fn examples(&mut self, seed: u64) -> Checked {
+        let mut random = Random::new(seed);
+        for example in &EXAMPLES {
+            let file = to_bytes(example.file).map_err(|(_, why)| why)?;
+            self.check_file(&mut random, &file)?;
+        }
+        Ok(())
+    }
+
+    /// Full days and other long files, with rooms that are just enough and always enough; the latter
+    /// also with such as are too short by one.
+    fn long_files(&mut self, seed: u64) -> Checked {
+        let mut random = Random::new(seed);
+        for file in mends::full_days(&mut random) {
+            let mended = self.watch_file(&file);
+            let sizes = mends::enough(file.len(), &mended);
+            self.check_sizes(&mut random, &file, &mended, &sizes)?;
+        }
+        for file in mends::long(&mut random) {
+            let mended = self.watch_file(&file);
+            let sizes = [mends::enough(file.len(), &mended), mends::short(&mended)].concat();
+            self.check_sizes(&mut random, &file, &mended, &sizes)?;
+        }
+        Ok(())
+    }
+
     fn one(&mut self, seed: u64) -> Checked {
         let mut random = Random::new(seed);
         for _ in 0..3 {
@@ -141,7 +181,25 @@ impl Driver {
             let run = runs::ending(&mut random, &state);
             self.check_run(&state, &run)?;
         }
-        self.damaged_runs(&mut random)
+        self.damaged_runs(&mut random)?;
+        if random.once_in(MENDED) {
+            self.mended(&mut random)?;
+        }
+        Ok(())
+    }
+
+    /// A file, and now and then what is kept of it.
+    fn mended(&mut self, random: &mut Random) -> Checked {
+        let file = mends::file(random);
+        let mended = self.check_file(random, &file)?;
+        if random.once_in(4) {
+            let again = self.check_file(random, &mended.kept)?;
+            self.counts.watch_again(&mended);
+            if again.kept != mended.kept || !again.dropped.is_empty() {
+                return Err(format!("the model mends a mended file: {:?}", mended.kept));
+            }
+        }
+        Ok(())
     }
 
     /// A damaged state and two runs, the second on what the first left.
@@ -265,6 +323,55 @@ impl Driver {
         Ok(model)
     }
 
+    fn watch_file(&mut self, file: &[u8]) -> Mended {
+        self.files += 1;
+        self.counts.watch_file(file)
+    }
+
+    /// A file, with rooms of these sizes.
+    fn check_sizes(
+        &mut self,
+        random: &mut Random,
+        file: &[u8],
+        mended: &Mended,
+        sizes: &[(usize, usize)],
+    ) -> Checked {
+        for &(places, rows) in sizes {
+            let rooms = mends::lent(random, places, rows);
+            self.check_mending(random, file, mended, &rooms)?;
+        }
+        Ok(())
+    }
+
+    /// A file, with rooms of several sizes.
+    fn check_file(&mut self, random: &mut Random, file: &[u8]) -> Result<Mended, String> {
+        let mended = self.watch_file(file);
+        for _ in 0..ROOMS {
+            let rooms = mends::rooms(random, file.len(), &mended);
+            self.check_mending(random, file, &mended, &rooms)?;
+        }
+        Ok(mended)
+    }
+
+    /// A mending by `nq_mend`, with anything beside the file.
+    fn check_mending(
+        &mut self,
+        random: &mut Random,
+        file: &[u8],
+        mended: &Mended,
+        rooms: &Rooms,
+    ) -> Checked {
+        let model = wanted_mending(file, rooms);
+        if self.follow {
+            println!("{}", mend_lines(file, rooms));
+        }
+        self.counts.watch_rooms(file.len(), mended, rooms);
+        self.mendings += 1;
+        let beside = random.draw() as u8;
+        let beside = random.pick(&[0, 1, 4, 255, beside]);
+        mended_alike(file, rooms, &model, library::mend(file, beside, rooms))
+    }
+
     fn check_reader(&mut self, bytes: &[u8], random: &mut Random) -> Result<Found, String> {
         let model = found(bytes);
         if self.follow {
@@ -286,6 +393,30 @@ fn rubbish(random: &mut Random, records: usize) -> Vec<Words> {
     (0..records).map(|_| std::array::from_fn(|_| damage::number(random))).collect()
 }
 
+/// Nothing if the library did as the model in a mending; otherwise what differs, of much the first
+/// lines, with the file and the rooms.
+fn mended_alike(
+    file: &[u8],
+    rooms: &Rooms,
+    model: &Mending,
+    given: Result<Mending, String>,
+) -> Checked {
+    let lines = match given {
+        Ok(library) if library == *model => return Ok(()),
+        Ok(library) => first_of(mend_differences(model, &library)),
+        Err(why) => why,
+    };
+    let (rooms, reply) = (mend_lines(file, rooms), model.reply);
+    Err(format!("{rooms}by nq_mend\nmodel: {reply:?}\n{lines}"))
+}
+
+/// The first lines of much that differs.
+fn first_of(mut lines: Vec<String>) -> String {
+    let all = lines.len();
+    lines.truncate(200);
+    format!("{}\n{all} differ", lines.join("\n"))
+}
+
 /// Nothing if the library did as the model in a run; otherwise what differs, of much the first lines,
 /// with the state and the run.
 fn ran_alike(
@@ -297,12 +428,7 @@ fn ran_alike(
 ) -> Checked {
     let lines = match given {
         Ok(library) if library == *model => return Ok(()),
-        Ok(library) => {
-            let mut lines = run_differences(model, &library);
-            let all = lines.len();
-            lines.truncate(200);
-            format!("{}\n{all} words differ", lines.join("\n"))
-        }
+        Ok(library) => first_of(run_differences(model, &library)),
         Err(why) => why,
     };
     let (run, state, reply) = (run_lines(run), state_lines(state), model.outcome.reply);

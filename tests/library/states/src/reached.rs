@@ -1,5 +1,6 @@
 //! What the states have reached, counted from the model's own outcomes, and what they must reach.
 
+mod mends;
 mod numbers;
 mod runs;
 
@@ -169,7 +170,8 @@ impl Counts {
     /// All that must be reached, with its counts.
     pub fn reached(&self) -> Reached {
         let mut reached = Reached::default();
-        for &(name, from, to) in REQUIRED.iter().chain(numbers::REQUIRED).chain(runs::REQUIRED) {
+        let required = [REQUIRED, numbers::REQUIRED, runs::REQUIRED, mends::REQUIRED];
+        for &(name, from, to) in required.into_iter().flatten() {
             let columns = match (from, to) {
                 (0, 0) => String::new(),
                 _ => format!(", n = {from} to {to}"),

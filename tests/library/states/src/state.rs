@@ -110,3 +110,30 @@ pub struct Found {
     pub word: u32,
     pub next: u32,
 }
+
+/// A drop as it lies in a lent row: "first byte (from 0), byte count, refusal number".
+pub type Row = [u64; 3];
+pub const ROW_NAMES: [&str; 3] = ["first byte", "byte count", "refusal"];
+
+/// What mending is lent beside a file: room for the kept bytes, and a row for each drop. Anything may
+/// stand in them.
+#[derive(Clone, Debug, Default, PartialEq, Eq)]
+pub struct Rooms {
+    pub room: Vec<u8>,
+    pub rows: Vec<Row>,
+}
+
+/// The reply to a mending: "the counts written", or a refusal's number and 0 for both.
+#[derive(Clone, Copy, Debug, Default, PartialEq, Eq)]
+pub struct MendReply {
+    pub kept: u64,
+    pub drops: u64,
+    pub refusal: u64,
+}
+
+/// The reply to a mending, and all that it leaves.
+#[derive(Clone, Debug, PartialEq, Eq)]
+pub struct Mending {
+    pub reply: MendReply,
+    pub rooms: Rooms,
+}

@@ -3,6 +3,7 @@
 use crate::record::{pack, unpack, Words, WORDS};
 use crate::state::*;
 use model::dayfile::{self, Record};
+use model::mending::{mend_into, Dropped};
 use model::register::{Day, Desk, Refusal, Turn};
 
 /// The model's outcome, but 11 where there is a task of a kind that the model does not have. "On a
@@ -137,4 +138,23 @@ pub fn found(bytes: &[u8]) -> Found {
         Record::Turn { desk } => (TURN, desk, 0),
     };
     Found { refusal: 0, kind, process: process.into(), word, next }
+}
+
+/// The model's outcome of a mending. "later places remain", and on 12 everything does.
+pub fn wanted_mending(file: &[u8], lent: &Rooms) -> Mending {
+    let mut rooms = lent.clone();
+    let mut dropped = vec![Dropped::default(); lent.rows.len()];
+    match mend_into(file, &mut rooms.room, &mut dropped) {
+        Err(refusal) => {
+            assert_eq!(rooms, *lent, "the model's refusal");
+            Mending { reply: MendReply { refusal: refusal as u64, ..MendReply::default() }, rooms }
+        }
+        Ok((kept, drops)) => {
+            for (row, drop) in rooms.rows.iter_mut().zip(&dropped[..drops]) {
+                *row = [drop.first as u64, drop.count as u64, drop.number.into()];
+            }
+            let reply = MendReply { kept: kept as u64, drops: drops as u64, refusal: 0 };
+            Mending { reply, rooms }
+        }
+    }
 }
