@@ -14,7 +14,7 @@ use Rattle.packed_days.specs.Boxes.{boxIn}
 use Rattle.mending.specs.Mending.{Part, judged, keptOf, Drop, dropsOf}
 use Rattle.mender.specs.declared.Progress.{Progress}
 use Rattle.mender.specs.Results.{rowOf, atFront}
-use Rattle.mender.specs.Passes.{standing, IsPassUpTo}
+use Rattle.mender.specs.Passes.{stage, IsPassUpTo}
 use Rattle.mender.proofs.Passing.{drops-few}
 use Rattle.mender.proofs.Rooms.{pass-short, front-stored}
 use Rattle.mendlines.specs.DropText.{longestDrop, rowsText, dropsText}
@@ -31,8 +31,8 @@ stored-front xs output after n is long fits =
 
 module _ (file : List ℕ) (s : Stand) (t : List (List ℕ)) (page room : List ℕ) (rows : List (List ℕ)) (p : Progress)
     (t′ : List (List ℕ)) (page′ room′ : List ℕ) (rows′ : List (List ℕ)) (lines : ℕ) (more : s .at < length file)
-    (is : IsPassUpTo file 1024 (standing (record { day = s .day; at = s .at; kept = 0; drops = 0 }) t page room rows)
-    (standing p t′ page′ room′ rows′))
+    (is : IsPassUpTo file 1024 (stage (record { day = s .day; at = s .at; kept = 0; drops = 0 }) t page room rows)
+    (stage p t′ page′ room′ rows′))
     (rooms : Rooms (length room) (length rows) lines) where
   abbrev done : List Part
   done = is .pass .done

@@ -17,7 +17,7 @@ ghost use Rattle.packed_rows.specs.Rows.{LongRows};
 ghost use Rattle.packed_days.specs.Boxes.{boxIn};
 ghost use Rattle.dayfile.specs.Pieces.{pieces};
 ghost use Rattle.mending.specs.Mending.{judged, partsOf};
-ghost use Rattle.mending.specs.Judging.{Ready};
+ghost use Rattle.mending.specs.Judging.{HasNext};
 ghost use Rattle.mendlines.specs.DropText.{longestDrop, rowsText};
 ghost use Rattle.streams.specs.Input.{incoming};
 ghost use Rattle.day_mend.specs.Runs.{Rooms, Tells, IsWritten, Writes, IsPassed, partsWritten, IsMendRun};
@@ -96,7 +96,7 @@ fn pass_on(
     rows: &mut [[u64; 3]],
     lines: &mut [u8],
 ) -> Stand
-    requires { ⌜ Ready (s .at) (now bytes) (now t) × Rooms (length (now room)) (length (now rows)) (length (now lines)) ⌝ }
+    requires { ⌜ HasNext (s .at) (now bytes) (now t) × Rooms (length (now room)) (length (now rows)) (length (now lines)) ⌝ }
     ensures { λ p. ⌜ IsPassed (now (bytes .entry)) s (now (t .entry)) (now (page .entry)) p (now (t .exit)) (now (page .exit)) ⌝ }
 {
     let day = s.day;

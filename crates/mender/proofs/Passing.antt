@@ -7,7 +7,7 @@ use mathlib.Core.Path.{_≡_, refl, sym, ap, ap₂, _∙_, subst}
 use mathlib.Core.List.{List, [], _∷_, _++_, map, append-assoc, append-nil, map-append}
 use mathlib.Core.Option.{Option, none, some}
 use lib.ListN.{length, take, drop, set, length-append, length-drop, length-map, drop-of-length-le}
-use lib.Seq.{sets, length-take-le, drop-drop}
+use lib.Seq.{sets, length-take-le, drop-drop, take-add}
 use Rattle.snapshot.specs.Refusals.{numberOf}
 use Rattle.snapshot.specs.Lists.{sumOf}
 use Rattle.snapshot.specs.declared.Refusal.{Refusal}
@@ -16,17 +16,19 @@ use Rattle.admission.specs.declared.Check.{Check}
 use Rattle.admission.specs.declared.Check.the-variants.{Passed, Refused}
 use Rattle.admission.specs.Checks.{asOption}
 use Rattle.dayfile.specs.Reader.{reading}
-use Rattle.dayfile.specs.Pieces.{spanOf, piecesUpTo, pieces}
+use Rattle.dayfile.specs.declared.Reading.{Reading}
+use Rattle.dayfile.specs.Pieces.{Piece, firstPiece, piecesUpTo, pieces}
 use Rattle.dayfile.proofs.Pieces.{span-fits, first-piece}
-use Rattle.days.specs.Happenings.{Box}
+use Rattle.days.specs.Happenings.{Box, boxAfter}
 use Rattle.packed_rows.specs.Rows.{LongRows}
 use Rattle.packed_days.specs.Boxes.{boxIn}
 use Rattle.mending.specs.declared.Judged.{Judged}
 use Rattle.mender.specs.declared.Progress.{Progress}
+use Rattle.mending.specs.Claims.{boxPast}
 use Rattle.mending.specs.Judging.{IsJudged}
 use Rattle.mending.specs.Mending.{Part, judged, bytesKept, keptOf, dropBy, dropsOf}
 use Rattle.mender.specs.Results.{rowOf}
-use Rattle.mender.specs.Passes.{Steady, Standing, standing, partsLeft, bytesIn, IsPass}
+use Rattle.mender.specs.Passes.{Steady, Stage, stage, piecesLeft, boxOf, partsLeft, bytesIn, IsPass}
 
 -- ---- lists of parts
 
@@ -84,7 +86,16 @@ module _ {at : ℕ} {file : List ℕ} {b : Box} {j : Judged} {t : List (List ℕ
       let fits = piece-fits in
       length-take-le (j .span) (drop at file) (omega arith)
 
-  -- the parts of what is left are this one, and those of what is behind it
+  -- the pieces of what is left are this one, and those of what is behind it
+  piece-next : pieces (drop at file) ≡ firstPiece (drop at file) (is .found) ∷ pieces (drop (at + j .span) file)
+  piece-next =
+      let l = length-drop at file in
+      let bs = drop at file in
+      first-piece bs (is .found) (sym (is .read)) (omega arith)
+      ∙ ap (λ n. firstPiece bs (is .found) ∷ pieces (drop n bs)) (sym (is .sized))
+      ∙ ap (λ cs. firstPiece bs (is .found) ∷ pieces cs) (drop-drop (j .span) at file)
+
+  -- and so are its parts
   piece-first : judged b (pieces (drop at file)) ≡
       record { bytes = piece; refusal = asOption (j .check) } ∷ judged (boxIn (j .day) t page) (pieces (drop (at + j .span) file))
   piece-first =
@@ -118,10 +129,12 @@ module _ (file : List ℕ) (s : Progress) (t : List (List ℕ)) (page room : Lis
     one-part : (k : Option Refusal) → asOption (j .check) ≡ k → (kept drops : ℕ) (room′ : List ℕ) (rows′ : List (List ℕ)) →
         kept ≡ s .kept + length (bytesKept k bs) → room′ ≡ sets room (s .kept) (bytesKept k bs) →
         drops ≡ s .drops + length (dropBy (s .at) (j .span) k) → rows′ ≡ sets rows (s .drops) (map rowOf (dropBy (s .at) (j .span) k)) →
-        IsPass file 1 (standing s t page room rows) (standing (behind kept drops) t′ page′ room′ rows′)
+        IsPass file 1 (stage s t page room rows) (stage (behind kept drops) t′ page′ room′ rows′)
     one-part k q kept drops room′ rows′ kept-is room-is drops-is rows-is =
         let fits = piece-fits is more in
         let long = piece-long is more in
+        let b = boxIn (s .day) t page in
+        let pieces-are = piece-next is more in
         let part : Part = record { bytes = bs; refusal = k } in
         let kept-one : keptOf (part ∷ []) ≡ bytesKept k bs = append-nil (bytesKept k bs) in
         let drops-one : dropsOf (s .at) (part ∷ []) ≡ dropBy (s .at) (j .span) k =
@@ -129,8 +142,10 @@ module _ (file : List ℕ) (s : Progress) (t : List (List ℕ)) (page room : Lis
         record {
           done = part ∷ [];
           counted = refl;
+          rest = sym (ap (drop 1) pieces-are);
+          box = is .after .box ∙ sym (ap (λ ps. boxPast b (map (λ p. p .reading) (take 1 ps))) pieces-are);
           parts = piece-first is more
-              ∙ ap (λ o. record { bytes = bs; refusal = o } ∷ partsLeft file (standing (behind kept drops) t′ page′ room′ rows′)) q;
+              ∙ ap (λ o. record { bytes = bs; refusal = o } ∷ partsLeft file (stage (behind kept drops) t′ page′ room′ rows′)) q;
           moved = omega arith;
           onward = omega arith;
           within = fits .1;
@@ -142,26 +157,36 @@ module _ (file : List ℕ) (s : Progress) (t : List (List ℕ)) (page room : Lis
         }
 
     pub keeps-piece : j .check ≡ Passed → (room′ : List ℕ) → room′ ≡ sets room (s .kept) (take (s .at + j .span - s .at) (drop (s .at) file)) →
-        IsPass file 1 (standing s t page room rows) (standing (behind (s .kept + j .span) (s .drops)) t′ page′ room′ rows)
+        IsPass file 1 (stage s t page room rows) (stage (behind (s .kept + j .span) (s .drops)) t′ page′ room′ rows)
     keeps-piece passed room′ laid =
         one-part none (ap asOption passed) (s .kept + j .span) (s .drops) room′ rows
         (ap (λ n. s .kept + n) (sym (piece-long is more))) (laid ∙ ap (sets room (s .kept)) (between (s .at) (j .span) file)) (omega arith) refl
 
     pub drops-piece : (k : Refusal) → j .check ≡ Refused k → (number : ℕ) → number ≡ numberOf k → (rows′ : List (List ℕ)) →
         rows′ ≡ set rows (s .drops) (s .at ∷ j .span ∷ number ∷ []) →
-        IsPass file 1 (standing s t page room rows) (standing (behind (s .kept) (s .drops + 1)) t′ page′ room rows′)
+        IsPass file 1 (stage s t page room rows) (stage (behind (s .kept) (s .drops + 1)) t′ page′ room rows′)
     drops-piece k refused number is-number rows′ put =
         one-part (some k) (ap asOption refused) (s .kept) (s .drops + 1) room rows′ (omega arith) refl refl
         (put ∙ ap (λ n. set rows (s .drops) (s .at ∷ j .span ∷ n ∷ [])) is-number)
 
 -- ---- several
 
+-- what is held once some were read, and then others
+past-append : (b : Box) (xs ys : List Reading) → boxPast b (xs ++ ys) ≡ boxPast (boxPast b xs) ys
+past-append b [] ys = refl
+past-append b (x ∷ xs) ys = past-append (boxAfter b x) xs ys
+
+abbrev readingsOf : List Piece → List Reading
+readingsOf ps = map (λ p. p .reading) ps
+
 module _ {file : List ℕ} where
-  pub pass-none : {w : Standing} → w .progress .at ≤ length file → LongRows (w .table) → IsPass file 0 w w
+  pub pass-none : {w : Stage} → w .progress .at ≤ length file → LongRows (w .table) → IsPass file 0 w w
   pass-none within long =
       record {
         done = [];
         counted = refl;
+        rest = refl;
+        box = refl;
         parts = refl;
         moved = omega arith;
         onward = omega arith;
@@ -173,7 +198,7 @@ module _ {file : List ℕ} where
         long = long;
       }
 
-  pub pass-then : {i j : ℕ} {u v w : Standing} → IsPass file i u v → IsPass file j v w → IsPass file (i + j) u w
+  pub pass-then : {i j : ℕ} {u v w : Stage} → IsPass file i u v → IsPass file j v w → IsPass file (i + j) u w
   pass-then {i} {j} {u} {v} {w} p q =
       let a = u .progress .at in
       let moved : v .progress .at ≡ a + bytesIn (p .done) = p .moved in
@@ -188,6 +213,12 @@ module _ {file : List ℕ} where
       record {
         done = p .done ++ q .done;
         counted = length-append (p .done) (q .done) ∙ ap₂ _+_ (p .counted) (q .counted);
+        rest = q .rest ∙ ap (drop j) (p .rest) ∙ drop-drop j i (piecesLeft file u);
+        box = q .box
+            ∙ ap₂ (λ b ps. boxPast b (readingsOf (take j ps))) (p .box) (p .rest)
+            ∙ sym (past-append (boxOf u) (readingsOf (take i (piecesLeft file u))) _)
+            ∙ sym (ap (boxPast (boxOf u)) (ap readingsOf (take-add i j (piecesLeft file u))
+            ∙ map-append (λ (x : Piece). x .reading) (take i (piecesLeft file u)) _));
         parts = p .parts ∙ ap (λ ps. p .done ++ ps) (q .parts) ∙ sym (append-assoc (p .done) (q .done) (partsLeft file w));
         moved = let m = q .moved in omega arith;
         onward = let m = p .onward in let n = q .onward in omega arith;
@@ -208,7 +239,7 @@ module _ {file : List ℕ} where
       }
 
   -- the counts stay below the place
-  pub pass-steady : {count : ℕ} {w v : Standing} → IsPass file count w v → Steady (w .progress) → Steady (v .progress)
+  pub pass-steady : {count : ℕ} {w v : Stage} → IsPass file count w v → Steady (w .progress) → Steady (v .progress)
   pass-steady {count} {w} p steady =
       let l = kept-few (p .done) in
       let m = drops-few (w .progress .at) (p .done) in
@@ -217,7 +248,7 @@ module _ {file : List ℕ} where
       record { kept = omega arith; drops = omega arith }
 
 -- at the end of the file nothing is left
-pub none-left : (file : List ℕ) (w : Standing) → length file ≤ w .progress .at → partsLeft file w ≡ []
+pub none-left : (file : List ℕ) (w : Stage) → length file ≤ w .progress .at → partsLeft file w ≡ []
 unfolding pieces piecesUpTo
 none-left file w end =
     let b = boxIn (w .progress .day) (w .table) (w .page) in

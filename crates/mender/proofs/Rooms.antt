@@ -27,7 +27,7 @@ use Rattle.mender.specs.declared.Progress.{Progress}
 use Rattle.mender.specs.declared.Mending.the-variants.{Written, Refused}
 use Rattle.mending.specs.Mending.{refusalBy, Part, judged, partsOf, bytesKept, keptOf, Drop, dropBy, dropsOf, mended, dropped}
 use Rattle.mender.specs.Results.{rowOf, lacksRoom, mendingOf, atFront, keptWith, rowsWith}
-use Rattle.mender.specs.Passes.{blankProgress, Standing, standing, partsLeft, IsPass, IsPassUpTo, IsRun}
+use Rattle.mender.specs.Passes.{blankProgress, Stage, stage, partsLeft, IsPass, IsPassUpTo, IsRun}
 use Rattle.mender.proofs.Passing.{none-left}
 
 -- ---- each byte is kept or dropped, and each drop but the last has two bytes at least
@@ -89,7 +89,7 @@ front-short (p ∷ ps) qs short =
     let later = front-short ps qs (short .1) in
     simp length-append (omega arith)
 
-pub pass-short : {file : List ℕ} {count : ℕ} {w v : Standing} (p : IsPass file count w v) → length (keptOf (p .done)) ≤ 10 * count
+pub pass-short : {file : List ℕ} {count : ℕ} {w v : Stage} (p : IsPass file count w v) → length (keptOf (p .done)) ≤ 10 * count
 pass-short {file} {count} {w} {v} p =
     let b = boxIn (w .progress .day) (w .table) (w .page) in
     let short = subst (All Short) (p .parts) (short-parts b (pieces-cut (drop (w .progress .at) file))) in
@@ -98,7 +98,7 @@ pass-short {file} {count} {w} {v} p =
 -- ---- a pass over a whole file
 
 module _ (file : List ℕ) (room room′ : List ℕ) (rows rows′ : List (List ℕ)) (s : Progress) (t : List (List ℕ)) (page : List ℕ)
-    (is : IsPassUpTo file (length file) (standing blankProgress blank-words (replicate 16 0) room rows) (standing s t page room′ rows′))
+    (is : IsPassUpTo file (length file) (stage blankProgress blank-words (replicate 16 0) room rows) (stage s t page room′ rows′))
   where
     at-end : length file ≤ s .at
     at-end = let p = is .pass .onward in by-cases (decLt (s .at) (length file)) (λ m. let all = is .all m in omega arith) (λ m. omega arith)
@@ -107,7 +107,7 @@ module _ (file : List ℕ) (room room′ : List ℕ) (rows rows′ : List (List 
     unfolding partsOf
     all-parts =
         sym (append-nil (is .pass .done))
-        ∙ ap (λ ps. is .pass .done ++ ps) (sym (none-left file (standing s t page room′ rows′) at-end))
+        ∙ ap (λ ps. is .pass .done ++ ps) (sym (none-left file (stage s t page room′ rows′) at-end))
         ∙ sym (is .pass .parts)
         ∙ ap (λ b. judged b (pieces file)) blank-box
 

@@ -11,9 +11,9 @@ ghost use lib.ListN.{length, set};
 ghost use lib.Seq.{sets};
 ghost use Rattle.packed_rows.specs.Rows.{LongRows};
 ghost use Rattle.mending.specs.Mending.{mended, dropped};
-ghost use Rattle.mending.specs.Judging.{Ready};
+ghost use Rattle.mending.specs.Judging.{HasNext};
 ghost use Rattle.mender.specs.Results.{rowOf, lacksRoom, mendingOf, keptWith, rowsWith};
-ghost use Rattle.mender.specs.Passes.{blankProgress, standing, Steady, IsPass, IsPassUpTo, IsRun};
+ghost use Rattle.mender.specs.Passes.{blankProgress, stage, Steady, IsPass, IsPassUpTo, IsRun};
 
 // How many bytes are kept and how many pieces dropped; or why nothing was written.
 pub enum Mending {
@@ -21,8 +21,7 @@ pub enum Mending {
     Refused(Refusal),
 }
 
-// How far a file has come: the day, the place of the next byte, how many bytes of the one room are written, and how many rows of the
-// other.
+// How far a file has come: the day, the place of the next byte, how many bytes are kept so far, and how many pieces dropped.
 pub struct Progress {
     pub day: Day,
     pub at: usize,
@@ -75,10 +74,10 @@ fn lap(
     room: &mut [u8],
     rows: &mut [[u64; 3]],
 ) -> Progress
-    requires { ⌜ Ready (s .at) (now bytes) (now t) × Steady s ⌝ }
+    requires { ⌜ HasNext (s .at) (now bytes) (now t) × Steady s ⌝ }
     ensures { λ p. ⌜ IsPass (now (bytes .entry)) 1
-        (standing s (now (t .entry)) (now (page .entry)) (now (room .entry)) (now (rows .entry)))
-        (standing p (now (t .exit)) (now (page .exit)) (now (room .exit)) (now (rows .exit))) ⌝ }
+        (stage s (now (t .entry)) (now (page .entry)) (now (room .entry)) (now (rows .entry)))
+        (stage p (now (t .exit)) (now (page .exit)) (now (room .exit)) (now (rows .exit))) ⌝ }
 {
     let at = s.at;
     let day = s.day;
@@ -125,8 +124,8 @@ pub fn pass(
 ) -> Progress
     requires { ⌜ (s .at ≤ length (now bytes)) × (length (now t) ≡ 8) × LongRows (now t) × Steady s ⌝ }
     ensures { λ p. ⌜ IsPassUpTo (now (bytes .entry)) most
-        (standing s (now (t .entry)) (now (page .entry)) (now (room .entry)) (now (rows .entry)))
-        (standing p (now (t .exit)) (now (page .exit)) (now (room .exit)) (now (rows .exit))) ⌝ }
+        (stage s (now (t .entry)) (now (page .entry)) (now (room .entry)) (now (rows .entry)))
+        (stage p (now (t .exit)) (now (page .exit)) (now (room .exit)) (now (rows .exit))) ⌝ }
 {
     let mut p = s;
     let mut i = 0;

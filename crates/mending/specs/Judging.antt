@@ -14,7 +14,7 @@ use Rattle.mending.specs.declared.Judged.{Judged}
 use Rattle.mending.specs.Mending.{refusalBy}
 
 -- there is a byte to read, and a table of eight packed records
-pub record Ready (at : ℕ) (bytes : List ℕ) (t : List (List ℕ)) : Type 0 where
+pub record HasNext (at : ℕ) (bytes : List ℕ) (t : List (List ℕ)) : Type 0 where
   pub more : at < length bytes
   pub eight : length t ≡ 8
   pub long : LongRows t

@@ -21,7 +21,7 @@ refusalBy (Found r next) o = refusalOf (o .answer)
 refusalBy End o = none
 refusalBy (Refused k) o = some k
 
--- a piece of the file: its bytes, and the refusal by which they are dropped; none, and they are kept
+-- a piece that was judged: its bytes, and the refusal by which they are dropped, or none where they are kept
 pub record Part : Type 0 where
   pub bytes : List ℕ
   pub refusal : Option Refusal

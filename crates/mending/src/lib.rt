@@ -9,7 +9,7 @@ ghost use Rattle.admission.specs.Checks.{asOption};
 ghost use Rattle.snapshot.specs.Demand.{refusalOf};
 ghost use Rattle.packed_days.specs.Boxes.{boxIn};
 ghost use Rattle.mending.specs.Mending.{refusalBy};
-ghost use Rattle.mending.specs.Judging.{Ready, IsJudged};
+ghost use Rattle.mending.specs.Judging.{HasNext, IsJudged};
 
 // A piece that was judged: the day after it, how many bytes it has, and whether it is kept.
 pub struct Judged {
@@ -42,7 +42,7 @@ fn check_of(x: Reading, o: Outcome) -> Check
 
 // Reads what stands at a place, and runs it.
 pub fn judge(at: usize, day: Day, bytes: &[u8], t: &mut [[u32; 369]], page: &mut [u32]) -> Judged
-    requires { ⌜ Ready at (now bytes) (now t) ⌝ }
+    requires { ⌜ HasNext at (now bytes) (now t) ⌝ }
     ensures { λ j. ⌜ IsJudged at (now (bytes .entry)) (boxIn day (now (t .entry)) (now (page .entry))) j (now (t .exit)) (now (page .exit)) ⌝ }
 {
     let x = dayfile::read(&bytes[at..]);

@@ -9,7 +9,7 @@ use Rattle.snapshot.specs.declared.Refusal.the-variants.{CountRange, Pro
 use Rattle.snapshot.specs.declared.Refusal.the-variants.{CutShort, UnknownKind, WrongLength, OpenState, CannotArise, RoomShort}
 use Rattle.snapshot.specs.declared.Refusal.the-variants.{TableShort, NoPage, TooMany}
 
--- the number of a refusal (document 01, Reasons to refuse, column Number; document 02, 12 in K1, 13 in K4, 14 and 15 in K5)
+-- the number of a refusal (document 01, Reasons to refuse, column Number; document 02, 12 in K1 and K7, 13 in K4, 14 and 15 in K5)
 abbrev pub numberOf : Refusal → ℕ
 numberOf CountRange = 1
 numberOf ProcessRange = 2

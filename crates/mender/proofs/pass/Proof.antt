@@ -5,14 +5,14 @@ use mathlib.Core.Path.{_≡_, refl, _∙_}
 use lib.ListN.{length}
 use borrow.Author.Needs.{needs}
 use borrow.Author.Tests.{ltb-true, ltb-false}
-use Rattle.mender.specs.Passes.{Steady, standing, IsPass}
+use Rattle.mender.specs.Passes.{Steady, stage, IsPass}
 use Rattle.mender.proofs.Passing.{pass-none, pass-then, pass-steady}
 use Rattle.mender.proofs.pass.Statement.{statement}
 use Rattle.mender.proofs.pass.Tie as tie
 
 abbrev Inv-loop : tie.InvT-loop
 Inv-loop most bytes t₀ page₀ room₀ rows₀ p₀ i₀ t page room rows p i =
-    IsPass bytes i (standing p₀ t₀ page₀ room₀ rows₀) (standing p t page room rows)
+    IsPass bytes i (stage p₀ t₀ page₀ room₀ rows₀) (stage p t page room rows)
     × Steady p
     × (length t ≡ 8)
     × (i ≤ most)

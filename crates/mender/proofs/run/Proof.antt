@@ -5,7 +5,7 @@ use mathlib.Core.Path.{_≡_, refl, sym, subst}
 use lib.ListN.{length, replicate}
 use Rattle.packed_rows.specs.Rows.{LongRows}
 use Rattle.packed_days.proofs.Blank.{blank-words, blank-rows}
-use Rattle.mender.specs.Passes.{Steady, standing, IsPassUpTo}
+use Rattle.mender.specs.Passes.{Steady, stage, IsPassUpTo}
 use Rattle.mender.proofs.Rooms.{whole-run}
 use borrow.Author.Needs.{needs}
 use Rattle.mender.proofs.run.Statement.{statement}
@@ -39,8 +39,8 @@ returns c =
     let a = at-start .before .before .before .args in
     let p = at-pass .pass in
     let w = whole-run (a .bytes .now) (a .room .now) _ (a .rows .now) _ (p .result) _ _
-    (subst (λ s. IsPassUpTo (a .bytes .now) (length (a .bytes .now)) (standing s blank-words (replicate 16 0) (a .room .now) (a .rows .now))
-    (standing (p .result) (p .last .1 .1 .1 .0) (p .last .1 .1 .1 .1 .0) (p .last .1 .1 .1 .1 .1 .0) (p .last .1 .1 .1 .1 .1 .1 .0)))
+    (subst (λ s. IsPassUpTo (a .bytes .now) (length (a .bytes .now)) (stage s blank-words (replicate 16 0) (a .room .now) (a .rows .now))
+    (stage (p .result) (p .last .1 .1 .1 .0) (p .last .1 .1 .1 .1 .0) (p .last .1 .1 .1 .1 .1 .0) (p .last .1 .1 .1 .1 .1 .1 .0)))
     (at-start .start .ensures) (p .ensures)) in
     (w .0, (w .1, w .2))
 
