@@ -1,11 +1,11 @@
--- Numbers as bytes: k bytes hold just the numbers below 256 ^ k, wherever they stand.
+-- Numbers as bytes: k bytes hold the numbers below 256 ^ k, wherever they stand.
 use Prim.Native.Nat.{ℕ, zero, suc, _+_, _/_, _%_, _^_, _<_}
 use native.Mathlib.Omega.{arith}
 use mathlib.Core.Path.{_≡_}
 use mathlib.Core.List.{List, [], _∷_, _++_}
 use lib.ListN.{length, getD, length-append}
 use lib.Seq.{append-snoc, getD-append-seam}
-use Rattle.dayfile.specs.Layout.{Bytes, bytesOf, numberAt}
+use Rattle.dayfile.specs.Layout.{bytesOf, numberAt}
 
 -- whatever stands before and after them, the k bytes of a number are read as that number
 pub number-read-back : (k x : ℕ) (before rest : List ℕ) → x < 256 ^ k → numberAt k (before ++ (bytesOf k x ++ rest)) (length before) ≡ x
@@ -17,13 +17,3 @@ number-read-back (suc k) x before rest h =
     let back = number-read-back k (x / 256) (before ++ (low ∷ [])) rest (omega arith) in
     let others : numberAt k (before ++ (low ∷ after)) (length before + 1) ≡ x / 256 = simp (append-snoc, length-append) at back in
     omega arith
-
--- past the end there is 0, which is a byte too
-byte-below : (bs : List ℕ) (i : ℕ) → Bytes bs → getD bs i 0 < 256
-byte-below [] i h = omega arith
-byte-below (b ∷ bs) zero h = h 0 (omega arith)
-byte-below (b ∷ bs) (suc i) h = byte-below bs i (λ j l. h (suc j) (omega arith))
-
-pub number-fits : (k : ℕ) (bs : List ℕ) (at : ℕ) → Bytes bs → numberAt k bs at < 256 ^ k
-number-fits zero bs at h = omega arith
-number-fits (suc k) bs at h = omega (arith, byte-below bs at h, number-fits k bs (at + 1) h)

@@ -1,18 +1,16 @@
--- What is laid out is read back, and what is read fits its fields.
+-- What is laid out is read back.
 use Prim.Native.Nat.{ℕ}
 use native.Mathlib.Omega.{arith}
-use mathlib.Core.Path.{_≡_, refl, sym, ap, ap₂, subst, _∙_}
-use mathlib.Core.Bool.{Bool, true, false, cond}
+use mathlib.Core.Path.{_≡_, refl, ap, ap₂, _∙_}
 use mathlib.Core.List.{List, _++_}
 use lib.ListN.{length}
-use lib.Dec.{eqb}
 use Rattle.snapshot.specs.declared.Request.{Request}
 use Rattle.snapshot.specs.declared.Request.the-variants.{Open, Update, Scan, Turn}
 use Rattle.dayfile.specs.declared.Reading.the-variants.{Found}
-use Rattle.dayfile.specs.Layout.{Bytes, bytesOf, FieldsFit, layout, lengthOf}
-use Rattle.dayfile.specs.Reader.{kindIn, recordOf, reading}
-use Rattle.dayfile.proofs.Numbers.{number-read-back, number-fits}
-use Rattle.dayfile.proofs.Reader.{finds-whole, found-is}
+use Rattle.dayfile.specs.Layout.{bytesOf, FieldsFit, layout, lengthOf}
+use Rattle.dayfile.specs.Reader.{recordOf, reading}
+use Rattle.dayfile.proofs.Numbers.{number-read-back}
+use Rattle.dayfile.proofs.Reader.{finds-whole}
 
 -- what stands before the fields
 abbrev head : (len kind : ℕ) → List ℕ
@@ -35,18 +33,3 @@ layout-read-back (Scan process) h rest =
 layout-read-back (Turn process) h rest =
     finds-whole (layout (Turn process) ++ rest) (omega arith) (omega arith) (omega arith) refl
     ∙ ap (λ n. Found (Turn n) 6) (number-read-back 2 process (head 4 4) rest h)
-
-either-fits : (b : Bool) (x y : Request) → FieldsFit x → FieldsFit y → FieldsFit (cond b x y)
-either-fits true x y p q = p
-either-fits false x y p q = q
-
-record-fits : (bs : List ℕ) (kind : ℕ) → Bytes bs → FieldsFit (recordOf bs kind)
-unfolding recordOf
-record-fits bs kind h =
-    let first = number-fits 2 bs 4 h in
-    either-fits (eqb kind 1) _ _ first
-    (either-fits (eqb kind 2) _ _ (first, number-fits 4 bs 6 h) (either-fits (eqb kind 3) _ _ first first))
-
--- every number in a record that was read fits its field
-pub read-fits : (bs : List ℕ) → Bytes bs → (r : Request) (next : ℕ) → reading bs ≡ Found r next → FieldsFit r
-read-fits bs h r next q = subst FieldsFit (sym (found-is bs r next q .1)) (record-fits bs (kindIn bs) h)

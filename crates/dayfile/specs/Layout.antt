@@ -7,10 +7,6 @@ use Rattle.snapshot.specs.declared.Request.the-variants.{Open, Update, Scan, Tu
 
 -- ---- numbers
 
--- every element is a byte
-abbrev pub Bytes : List ℕ → Type 0
-Bytes bs = (i : ℕ) → i < length bs → getD bs i 0 < 256
-
 -- the k bytes of x, "little-endian"
 abbrev pub bytesOf : ℕ → ℕ → List ℕ
 bytesOf zero x = []
