@@ -11,22 +11,22 @@ use lib.Seq.{sets, length-take-le, drop-drop, take-add}
 use Rattle.snapshot.specs.Refusals.{numberOf}
 use Rattle.snapshot.specs.Lists.{sumOf}
 use Rattle.snapshot.specs.declared.Refusal.{Refusal}
+use Rattle.snapshot.specs.declared.Refusal.the-variants.{CountRange, ProcessRange, Busy, Idle, DayFull, LentSize, CutShort}
+use Rattle.snapshot.specs.declared.Refusal.the-variants.{UnknownKind, WrongLength, OpenState, CannotArise, RoomShort, TableShort}
+use Rattle.snapshot.specs.declared.Refusal.the-variants.{NoPage, TooMany}
 use Rattle.snapshot.proofs.Lists.{sum-append, sets-then}
-use Rattle.admission.specs.declared.Check.{Check}
-use Rattle.admission.specs.declared.Check.the-variants.{Passed, Refused}
-use Rattle.admission.specs.Checks.{asOption}
 use Rattle.dayfile.specs.Reader.{reading}
 use Rattle.dayfile.specs.declared.Reading.{Reading}
 use Rattle.dayfile.specs.Pieces.{Piece, firstPiece, piecesUpTo, pieces}
 use Rattle.dayfile.proofs.Pieces.{span-fits, first-piece}
-use Rattle.days.specs.Happenings.{Box, boxAfter}
+use Rattle.days.specs.Happenings.{Box, outcomeIn, boxAfter}
 use Rattle.packed_rows.specs.Rows.{LongRows}
 use Rattle.packed_days.specs.Boxes.{boxIn}
 use Rattle.mending.specs.declared.Judged.{Judged}
 use Rattle.mender.specs.declared.Progress.{Progress}
 use Rattle.mending.specs.Claims.{boxPast}
-use Rattle.mending.specs.Judging.{IsJudged}
-use Rattle.mending.specs.Mending.{Part, judged, bytesKept, keptOf, dropBy, dropsOf}
+use Rattle.mending.specs.Judging.{numberIf, IsJudged}
+use Rattle.mending.specs.Mending.{refusalBy, Part, judged, bytesKept, keptOf, dropBy, dropsOf}
 use Rattle.mender.specs.Results.{rowOf}
 use Rattle.mender.specs.Passes.{Steady, Stage, stage, piecesLeft, boxOf, partsLeft, bytesIn, IsPass}
 
@@ -97,21 +97,42 @@ module _ {at : ℕ} {file : List ℕ} {b : Box} {j : Judged} {t : List (List ℕ
 
   -- and so are its parts
   piece-first : judged b (pieces (drop at file)) ≡
-      record { bytes = piece; refusal = asOption (j .check) } ∷ judged (boxIn (j .day) t page) (pieces (drop (at + j .span) file))
+      record { bytes = piece; refusal = refusalBy (is .found) (outcomeIn b (is .found)) } ∷ judged (boxIn (j .day) t page) (pieces (drop (at + j .span) file))
   piece-first =
       let l = length-drop at file in
       let bs = drop at file in
       let size = sym (is .sized) in
-      let check = sym (is .checked) in
       let box = sym (is .after .box) in
       ap (judged b) (first-piece bs (is .found) (sym (is .read)) (omega arith))
-      ∙ (λ i. record { bytes = take (size i) bs; refusal = check i } ∷ judged (box i) (pieces (drop (size i) bs)))
-      ∙ ap (λ cs. record { bytes = piece; refusal = asOption (j .check) } ∷ judged (boxIn (j .day) t page) (pieces cs))
+      ∙ (λ i. record { bytes = take (size i) bs; refusal = refusalBy (is .found) (outcomeIn b (is .found)) } ∷ judged (box i) (pieces (drop (size i) bs)))
+      ∙ ap (λ cs. record { bytes = piece; refusal = refusalBy (is .found) (outcomeIn b (is .found)) } ∷ judged (boxIn (j .day) t page) (pieces cs))
       (drop-drop (j .span) at file)
 
 -- all between its ends, as the code finds it
 pub between : (at n : ℕ) (l : List ℕ) → take (at + n - at) (drop at l) ≡ take n (drop at l)
 between at n l = let e : at + n - at ≡ n = omega arith in ap (λ k. take k (drop at l)) e
+
+-- every refusal has a number
+number-some : (k : Refusal) → 0 < numberOf k
+number-some CountRange = omega arith
+number-some ProcessRange = omega arith
+number-some Busy = omega arith
+number-some Idle = omega arith
+number-some DayFull = omega arith
+number-some LentSize = omega arith
+number-some CutShort = omega arith
+number-some UnknownKind = omega arith
+number-some WrongLength = omega arith
+number-some OpenState = omega arith
+number-some CannotArise = omega arith
+number-some RoomShort = omega arith
+number-some TableShort = omega arith
+number-some NoPage = omega arith
+number-some TooMany = omega arith
+
+number-none : (k : Option Refusal) → numberIf k ≡ 0 → k ≡ none
+number-none none q = refl
+number-none (some k) q = absurd (let some-number = number-some k in omega arith)
 
 -- ---- a pass of one part
 
@@ -126,7 +147,7 @@ module _ (file : List ℕ) (s : Progress) (t : List (List ℕ)) (page room : Lis
     behind kept drops = record { day = j .day; at = s .at + j .span; kept = kept; drops = drops }
 
     -- what is kept of a piece, and its drop, go into the next places
-    one-part : (k : Option Refusal) → asOption (j .check) ≡ k → (kept drops : ℕ) (room′ : List ℕ) (rows′ : List (List ℕ)) →
+    one-part : (k : Option Refusal) → refusalBy (is .found) (outcomeIn (boxIn (s .day) t page) (is .found)) ≡ k → (kept drops : ℕ) (room′ : List ℕ) (rows′ : List (List ℕ)) →
         kept ≡ s .kept + length (bytesKept k bs) → room′ ≡ sets room (s .kept) (bytesKept k bs) →
         drops ≡ s .drops + length (dropBy (s .at) (j .span) k) → rows′ ≡ sets rows (s .drops) (map rowOf (dropBy (s .at) (j .span) k)) →
         IsPass file 1 (stage s t page room rows) (stage (behind kept drops) t′ page′ room′ rows′)
@@ -156,18 +177,28 @@ module _ (file : List ℕ) (s : Progress) (t : List (List ℕ)) (page room : Lis
           long = is .after .long;
         }
 
-    pub keeps-piece : j .check ≡ Passed → (room′ : List ℕ) → room′ ≡ sets room (s .kept) (take (s .at + j .span - s .at) (drop (s .at) file)) →
+    -- the refusal of the piece, if it has one
+    abbrev refusal : Option Refusal
+    refusal = refusalBy (is .found) (outcomeIn (boxIn (s .day) t page) (is .found))
+
+    pub keeps-piece : j .number ≡ 0 → (room′ : List ℕ) →
+        room′ ≡ sets room (s .kept) (take (s .at + j .span - s .at) (drop (s .at) file)) →
         IsPass file 1 (stage s t page room rows) (stage (behind (s .kept + j .span) (s .drops)) t′ page′ room′ rows)
-    keeps-piece passed room′ laid =
-        one-part none (ap asOption passed) (s .kept + j .span) (s .drops) room′ rows
+    keeps-piece zero room′ laid =
+        one-part none (number-none refusal (sym (is .numbered) ∙ zero)) (s .kept + j .span) (s .drops) room′ rows
         (ap (λ n. s .kept + n) (sym (piece-long is more))) (laid ∙ ap (sets room (s .kept)) (between (s .at) (j .span) file)) (omega arith) refl
 
-    pub drops-piece : (k : Refusal) → j .check ≡ Refused k → (number : ℕ) → number ≡ numberOf k → (rows′ : List (List ℕ)) →
-        rows′ ≡ set rows (s .drops) (s .at ∷ j .span ∷ number ∷ []) →
+    pub drops-piece : (j .number ≡ 0 → ⊥) → (rows′ : List (List ℕ)) → rows′ ≡ set rows (s .drops) (s .at ∷ j .span ∷ j .number ∷ []) →
         IsPass file 1 (stage s t page room rows) (stage (behind (s .kept) (s .drops + 1)) t′ page′ room rows′)
-    drops-piece k refused number is-number rows′ put =
-        one-part (some k) (ap asOption refused) (s .kept) (s .drops + 1) room rows′ (omega arith) refl refl
-        (put ∙ ap (λ n. set rows (s .drops) (s .at ∷ j .span ∷ n ∷ [])) is-number)
+    drops-piece number rows′ put = go refusal refl
+      where
+        go : (k : Option Refusal) → refusalBy (is .found) (outcomeIn (boxIn (s .day) t page) (is .found)) ≡ k →
+            IsPass file 1 (stage s t page room rows)
+            (stage (record { day = j .day; at = s .at + j .span; kept = s .kept; drops = s .drops + 1 }) t′ page′ room rows′)
+        go none q = absurd (number (is .numbered ∙ ap numberIf q))
+        go (some k) q =
+            one-part (some k) q (s .kept) (s .drops + 1) room rows′ (omega arith) refl refl
+            (put ∙ ap (λ n. set rows (s .drops) (s .at ∷ j .span ∷ n ∷ [])) (is .numbered ∙ ap numberIf q))
 
 -- ---- several
 

@@ -1,6 +1,5 @@
 // Mending a damaged day file: it is read from end to end, and each piece of it is kept or dropped. What is kept goes into one lent room,
 // and a row for each drop into another: its first byte, its byte count and the number of its refusal.
-use admission::Check;
 use snapshot::Day;
 use snapshot::Refusal;
 ghost use mathlib.Core.Path.{_≡_};
@@ -84,31 +83,22 @@ fn lap(
     let j = mending::judge(at, day, bytes, t, page);
     let after = j.day;
     let span = j.span;
-    let check = j.check;
     let end = at + span;
-    match check {
-        Check::Passed => {
-            lay(&bytes[at..end], room, s.kept);
-            Progress {
-                day: after,
-                at: end,
-                kept: s.kept + span,
-                drops: s.drops,
-            }
-        }
-        Check::Refused(k) => {
-            put(
-                [at as u64, span as u64, snapshot::number(k) as u64],
-                rows,
-                s.drops,
-            );
-            Progress {
-                day: after,
-                at: end,
-                kept: s.kept,
-                drops: s.drops + 1,
-            }
-        }
+    if j.number == 0 {
+        lay(&bytes[at..end], room, s.kept);
+        return Progress {
+            day: after,
+            at: end,
+            kept: s.kept + span,
+            drops: s.drops,
+        };
+    }
+    put([at as u64, span as u64, j.number as u64], rows, s.drops);
+    Progress {
+        day: after,
+        at: end,
+        kept: s.kept,
+        drops: s.drops + 1,
     }
 }
 

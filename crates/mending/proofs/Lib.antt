@@ -1,4 +1,4 @@
--- What is claimed of a mended file, files that are mended by computing, and answers that are no refusal.
+-- What is claimed of a mended file, files that are mended by computing, and what a reply tells.
 pub mod Claims
-pub mod Checks
 pub mod Cases
+pub mod Replies

@@ -1,42 +1,25 @@
 // Whether what stands in a damaged day file is kept or dropped: it is read, and run on a table of packed records.
-use admission::Check;
 use dayfile::Reading;
-use snapshot::Answer;
 use snapshot::Day;
-use snapshot::Outcome;
 ghost use mathlib.Core.Path.{_≡_};
-ghost use Rattle.admission.specs.Checks.{asOption};
-ghost use Rattle.snapshot.specs.Demand.{refusalOf};
 ghost use Rattle.packed_days.specs.Boxes.{boxIn};
-ghost use Rattle.mending.specs.Mending.{refusalBy};
-ghost use Rattle.mending.specs.Judging.{HasNext, IsJudged};
+ghost use Rattle.mending.specs.Judging.{numberWith, HasNext, IsJudged};
 
-// A piece that was judged: the day after it, how many bytes it has, and whether it is kept.
+// A piece that was judged: the day after it, how many bytes it has, and the number of the refusal by which it is dropped, 0 if it is kept.
 pub struct Judged {
     pub day: Day,
     pub span: usize,
-    pub check: Check,
+    pub number: u32,
 }
 
-// Whether an answer is a refusal.
-fn answer_check(answer: Answer) -> Check
-    ensures { λ c. ⌜ asOption c ≡ refusalOf answer ⌝ }
+// The number of the refusal by which what was read is dropped, 0 if it is kept; of a record that was run it is the reply's.
+fn number_of(x: Reading, replied: u32) -> u32
+    ensures { λ n. ⌜ n ≡ numberWith x replied ⌝ }
 {
-    let Answer::Refused(k) = answer else {
-        return Check::Passed;
-    };
-    Check::Refused(k)
-}
-
-// Whether what was read is refused, by the reader or, once it was run, by the day.
-fn check_of(x: Reading, o: Outcome) -> Check
-    ensures { λ c. ⌜ asOption c ≡ refusalBy x o ⌝ }
-{
-    let answer = o.answer;
     match x {
-        Reading::Found { record: _, next: _ } => answer_check(answer),
-        Reading::End => Check::Passed,
-        Reading::Refused(k) => Check::Refused(k),
+        Reading::Found { record: _, next: _ } => replied,
+        Reading::End => 0,
+        Reading::Refused(k) => snapshot::number(k),
     }
 }
 
@@ -47,12 +30,10 @@ pub fn judge(at: usize, day: Day, bytes: &[u8], t: &mut [[u32; 369]], page: &mut
 {
     let x = dayfile::read(&bytes[at..]);
     let span = dayfile::span(&bytes[at..], x);
-    let o = packed_days::asked(day, t, x, page);
-    let after = o.day;
-    let check = check_of(x, o);
+    let r = packed_days::replied(day, t, x, page);
     Judged {
-        day: after,
+        day: numbers::day_in(r),
         span,
-        check,
+        number: number_of(x, r.refusal),
     }
 }

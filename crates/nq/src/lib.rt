@@ -1,6 +1,6 @@
 // The register by numbers, for programs in C and Rust: a table of packed records, a request and its reply, and the reader and the mender
 // of day files. bindings/c/nelvaquist.h says what a caller has to hold to.
-use numbers::MendingNumbers;
+use mender::Mending;
 use numbers::RecordNumbers;
 use numbers::ReplyNumbers;
 use snapshot::Day;
@@ -10,11 +10,37 @@ ghost use lib.ListN.{length};
 ghost use Rattle.snapshot.specs.declared.Request.the-variants.{Open, Update, Scan, Turn};
 ghost use Rattle.dayfile.specs.Reader.{reading, readerReply};
 ghost use Rattle.packed_table.specs.Tables.{tableAfter, steppedIn};
-ghost use Rattle.numbers.specs.Replies.{dayWith, recordNumbers, mendingNumbers};
+ghost use Rattle.numbers.specs.Replies.{dayWith, recordNumbers};
 ghost use Rattle.mender.specs.Results.{mendingOf, keptWith, rowsWith};
 ghost use Rattle.packed_runs.specs.Runs.{runIn};
 ghost use Rattle.packed_requests.specs.Requests.{replyTo, replyIn, tableIn, pageIn};
-ghost use Rattle.nq.specs.Requests.{version, runReply};
+ghost use Rattle.nq.specs.Requests.{version, runReply, mendingNumbers};
+
+// How many bytes of a mended day file were written and how many drops, or the number of a refusal; 0 where there is none.
+#[repr(C)]
+pub struct MendingNumbers {
+    pub kept: u64,
+    pub drops: u64,
+    pub refusal: u64,
+}
+
+// What mending a day file comes to.
+fn mending_of(m: Mending) -> MendingNumbers
+    ensures { λ r. ⌜ r ≡ mendingNumbers m ⌝ }
+{
+    match m {
+        Mending::Written { kept, drops } => MendingNumbers {
+            kept: kept as u64,
+            drops: drops as u64,
+            refusal: 0,
+        },
+        Mending::Refused(k) => MendingNumbers {
+            kept: 0,
+            drops: 0,
+            refusal: snapshot::number(k) as u64,
+        },
+    }
+}
 
 // A request of any kind: 1 an opening, 2 an entry call, 3 a page call, 4 a turn.
 #[no_mangle]
@@ -141,7 +167,7 @@ pub extern "C" fn nq_mend(bytes: &[u8], room: &mut [u8], rows: &mut [[u64; 3]]) 
     ensures { λ _. ⌜ now (room .exit) ≡ keptWith (now (bytes .entry)) (now (room .entry)) (length (now (rows .entry))) ⌝ }
     ensures { λ _. ⌜ now (rows .exit) ≡ rowsWith (now (bytes .entry)) (length (now (room .entry))) (now (rows .entry)) ⌝ }
 {
-    numbers::mending_of(mender::mend(bytes, room, rows))
+    mending_of(mender::mend(bytes, room, rows))
 }
 
 // The version of what crosses: the header and the library of a program are of one.

@@ -13,11 +13,8 @@ use Rattle.dayfile.specs.declared.Reading.{Reading}
 use Rattle.dayfile.specs.declared.Reading.the-variants.{Found, End, Refused}
 use Rattle.dayfile.specs.Reader as Reader
 use Rattle.dayfile.specs.Reader.{ReaderReply, found, ended}
-use Rattle.mender.specs.declared.Mending.{Mending}
-use Rattle.mender.specs.declared.Mending.the-variants as Mendings
 use Rattle.numbers.specs.declared.ReplyNumbers.{ReplyNumbers}
 use Rattle.numbers.specs.declared.RecordNumbers.{RecordNumbers}
-use Rattle.numbers.specs.declared.MendingNumbers.{MendingNumbers}
 
 -- the day that two numbers are
 abbrev pub dayWith : (count event : ℕ) → Day
@@ -65,8 +62,3 @@ abbrev pub Short : Reading → Type 0
 Short (Found x next) = next ≤ 10
 Short End = Unit {0}
 Short (Refused k) = Unit {0}
-
--- what mending a day file comes to: "the counts written", or a refusal's number
-abbrev pub mendingNumbers : Mending → MendingNumbers
-mendingNumbers (Mendings.Written kept drops) = record { kept = kept; drops = drops; refusal = 0 }
-mendingNumbers (Mendings.Refused k) = record { kept = 0; drops = 0; refusal = numberOf k }

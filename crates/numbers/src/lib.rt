@@ -1,7 +1,6 @@
 // What crosses to other languages, by numbers: requests, replies and the records of day files.
 use admission::Check;
 use dayfile::Reading;
-use mender::Mending;
 use runs::RunOutcome;
 use snapshot::Answer;
 use snapshot::Day;
@@ -14,7 +13,7 @@ ghost use Rattle.admission.specs.Checks.{asOption};
 ghost use Rattle.dayfile.specs.Reader.{readerReply};
 ghost use Rattle.numbers.specs.Requests.{requestNumbered, isKind};
 ghost use Rattle.numbers.specs.Replies.{dayWith, replyWith, replyNumbers, runNumbers, replyWords};
-ghost use Rattle.numbers.specs.Replies.{Short, recordWith, requestNumbers, recordNumbers, mendingNumbers};
+ghost use Rattle.numbers.specs.Replies.{Short, recordWith, requestNumbers, recordNumbers};
 
 // The day after a request, its answer (0 refused, 1 opened, 2 called, 3 read, 4 page, 5 written, 6 a run), the number of the
 // refusal, the lender and the instant of a page, and the turns of a task.
@@ -37,14 +36,6 @@ pub struct RecordNumbers {
     pub process: u32,
     pub word: u32,
     pub next: u32,
-}
-
-// How many bytes of a mended day file were written and how many drops, or the number of a refusal; 0 where there is none.
-#[repr(C)]
-pub struct MendingNumbers {
-    pub kept: u64,
-    pub drops: u64,
-    pub refusal: u64,
 }
 
 // A reply, where the day is so.
@@ -156,7 +147,7 @@ fn record(kind: u32, process: u32, word: u32, next: u32) -> RecordNumbers
     }
 }
 
-fn request_numbers(x: Request, next: u32) -> RecordNumbers
+pub fn request_numbers(x: Request, next: u32) -> RecordNumbers
     ensures { λ r. ⌜ r ≡ requestNumbers x next ⌝ }
 {
     match x {
@@ -181,24 +172,6 @@ pub fn record_of(x: Reading) -> RecordNumbers
             process: 0,
             word: 0,
             next: 0,
-        },
-    }
-}
-
-// What mending a day file comes to.
-pub fn mending_of(m: Mending) -> MendingNumbers
-    ensures { λ r. ⌜ r ≡ mendingNumbers m ⌝ }
-{
-    match m {
-        Mending::Written { kept, drops } => MendingNumbers {
-            kept: kept as u64,
-            drops: drops as u64,
-            refusal: 0,
-        },
-        Mending::Refused(k) => MendingNumbers {
-            kept: 0,
-            drops: 0,
-            refusal: snapshot::number(k) as u64,
         },
     }
 }

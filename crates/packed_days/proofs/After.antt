@@ -1,17 +1,20 @@
 -- What asking a record leaves of a box whose records lie as words: that of the box after it (`asked-after`), and where no record was
 -- found, all of it (`unread-after`).
-use Prim.Native.Nat.{ℕ, zero, suc, _+_, _-_}
+use Prim.Native.Nat.{ℕ, zero, suc, _+_, _-_, _≤_}
 use native.Mathlib.Omega.{arith}
 use mathlib.Core.Path.{_≡_, refl, sym, ap, ap₂, _∙_, subst}
 use mathlib.Core.Bool.{true, false}
 use mathlib.Core.List.{List, [], _∷_, _++_}
 use lib.Dec.{T}
-use lib.ListN.{take, drop}
+use lib.ListN.{length, take, drop}
+use lib.Seq.{length-take-le}
 use Rattle.snapshot.specs.Demand.{Result}
+use Rattle.snapshot.specs.Replies.{replyOf}
 use Rattle.snapshot.specs.Days.{State}
 use Rattle.snapshot.specs.declared.Day.{Day}
 use Rattle.snapshot.specs.declared.Outcome.{Outcome}
 use Rattle.snapshot.specs.declared.Request.{Request}
+use Rattle.snapshot.specs.declared.Request.the-variants.{Open, Update, Scan, Turn}
 use Rattle.requests.specs.Requests.{itemOf, pageAfter}
 use Rattle.dayfile.specs.declared.Reading.{Reading}
 use Rattle.dayfile.specs.declared.Reading.the-variants.{Found, End, Refused}
@@ -25,7 +28,12 @@ use Rattle.packed_table.proofs.Chained.{unpacked-after, long-after}
 use Rattle.days.specs.Asking.{isNone, requestOf, lentTo, unaskedOf}
 use Rattle.days.specs.Happenings.{Box, outcomeIn}
 use Rattle.days.proofs.Boxes.{unread-stays}
-use Rattle.packed_days.specs.Boxes.{boxIn, IsAfter}
+use Rattle.days.proofs.Kept.{lentTo-le}
+use Rattle.numbers.specs.declared.ReplyNumbers.{ReplyNumbers}
+use Rattle.numbers.specs.declared.RecordNumbers.{RecordNumbers}
+use Rattle.numbers.specs.Replies.{replyNumbers, requestNumbers}
+use Rattle.packed_requests.specs.Requests.{replyIn, tableIn, pageIn}
+use Rattle.packed_days.specs.Boxes.{boxIn, IsAfter, IsReplied}
 
 -- ---- the records that some of the words are
 
@@ -122,3 +130,45 @@ module _ (d : Day) (t : List (List ℕ)) (page : List ℕ) (long : LongRows t) w
       (shows ∙ (λ i. pageAfter page (steppedIn d (take (k i) t) (q-is i) page) (q-is i))))
   asked-after End found q q-is m m-is o told lent left shown shows = absurd (subst T found tt)
   asked-after (Refused k) found q q-is m m-is o told lent left shown shows = absurd (subst T found tt)
+
+-- and where the outcome is replied by numbers
+pub replied-by : {x : Reading} {b : Box} {o : Outcome} {t : List (List ℕ)} {page : List ℕ} →
+    (o ≡ outcomeIn b x) × IsAfter x b (o .day) t page → (r : ReplyNumbers) → r ≡ replyNumbers (o .day) (replyOf [] (o .answer)) →
+    IsReplied x b r t page
+replied-by {x} {b} {o} {t} {page} after r said =
+    record {
+      reply = said ∙ ap (λ q. replyNumbers (q .day) (replyOf [] (q .answer))) (after .0);
+      after = subst (λ (q : Outcome). IsAfter x b (q .day) t page) (after .0) (after .1);
+    }
+
+-- as many records as are lent, at most eight
+pub lent-fits : (d : Day) (q : Request) (t : List (List ℕ)) (n : ℕ) → length t ≡ 8 → n ≡ lentTo d q →
+    (n ≤ length t) × (n ≡ length (take n t))
+lent-fits d q t n eight is =
+    let few = lentTo-le d q in
+    let inside : n ≤ length t = omega (arith, eight, is, few) in
+    (inside, sym (length-take-le n t inside))
+
+-- a request by its own numbers is that request
+module _ (d : Day) (t : List (List ℕ)) (page : List ℕ) (x : Request) where
+  abbrev step : Result (State Process)
+  step = steppedIn d t x page
+
+  pub by-numbers : (q : RecordNumbers) → q ≡ requestNumbers x 0 →
+      (replyIn d t (q .kind) (q .process) (q .word) page ≡ replyNumbers (step .state .day) (replyOf [] (step .answer)))
+      × (tableIn d t (q .kind) (q .process) (q .word) page ≡ tableAfter t x step)
+      × (pageIn d t (q .kind) (q .process) (q .word) page ≡ pageAfter page step x)
+  by-numbers q is = (
+    ap (λ z. replyIn d t (z .kind) (z .process) (z .word) page) is ∙ go x .0,
+    ap (λ z. tableIn d t (z .kind) (z .process) (z .word) page) is ∙ go x .1,
+    ap (λ z. pageIn d t (z .kind) (z .process) (z .word) page) is ∙ go x .2,
+  )
+    where
+      go : (x : Request) → let z = requestNumbers x 0 in let s = steppedIn d t x page in
+          (replyIn d t (z .kind) (z .process) (z .word) page ≡ replyNumbers (s .state .day) (replyOf [] (s .answer)))
+          × (tableIn d t (z .kind) (z .process) (z .word) page ≡ tableAfter t x s)
+          × (pageIn d t (z .kind) (z .process) (z .word) page ≡ pageAfter page s x)
+      go (Open count) = (refl, refl, refl)
+      go (Update process word) = (refl, refl, refl)
+      go (Scan process) = (refl, refl, refl)
+      go (Turn process) = (refl, refl, refl)

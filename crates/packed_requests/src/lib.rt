@@ -1,4 +1,4 @@
-// Any request by numbers on a table of packed records. It is one function, which the library's requests and runs both call: so
+// Any request by numbers on a table of packed records. It is one function, which the library's requests, runs and mending all call: so
 // the compiler keeps the step and its reply together.
 use numbers::ReplyNumbers;
 use snapshot::Day;

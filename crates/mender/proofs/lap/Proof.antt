@@ -1,8 +1,8 @@
 -- `mender::lap` meets its contract.
 use Prim.Native.Nat.{_+_, _≤_, _<_}
 use native.Mathlib.Omega.{arith}
-use mathlib.Core.Path.{_≡_, refl, sym, ap, _∙_}
-use lib.ListN.{length, take, drop}
+use mathlib.Core.Path.{ap, _∙_}
+use lib.ListN.{length}
 use Rattle.mender.proofs.Passing.{piece-fits, piece-long, between, keeps-piece, drops-piece}
 use borrow.Author.Needs.{needs}
 use Rattle.mender.proofs.lap.Statement.{statement}
@@ -27,9 +27,6 @@ judge-requires c κs = search needs
 add-end : tie.Need-add-end
 add-end c = let j = c .before .before .before .before in let f = fits j in let s = small j in omega arith
 
-enum-told : tie.Need-enum-told
-enum-told c = search needs
-
 sub-lay : tie.Need-sub-lay
 sub-lay c = search needs
 
@@ -43,27 +40,13 @@ lay-requires : tie.Need-lay-requires
 lay-requires c κs =
     let j = c .before .before .before .before .before .before .before .before in
     let a = start-of j .args in
-    let long = ap length (between (a .s .at) (j .judge .result .span) (a .bytes .now)) ∙ piece-long (j .judge .ensures) (start-of j .pre .0 .more) in
+    let n = j .judge .result .span in
+    let long = ap length (between (a .s .at) n (a .bytes .now)) ∙ piece-long (j .judge .ensures) (start-of j .pre .0 .more) in
     let f = fits j in let s = small j in let k = start-of j .pre .1 .kept in
     omega arith
 
-add-t22 : tie.Need-add-t22
-add-t22 c = let j = c .before .before .before .before .before .before .before .before .before .before .before .before in let f = fits j in let s = small j in let k = start-of j .pre .1 .kept in record { fits = omega arith }
-
-enum-known-check : tie.Need-enum-known-check
-enum-known-check c = search needs
-
-number-requires : tie.Need-number-requires
-number-requires c κs = search needs
-
-cast-t31 : tie.Need-cast-t31
-cast-t31 c = search needs
-
-put-requires : tie.Need-put-requires
-put-requires c κs = search needs
-
-add-t35 : tie.Need-add-t35
-add-t35 c = search needs
+add-t20 : tie.Need-add-t20
+add-t20 c = let j = c .before .before .before .before .before .before .before .before .before .before .before .before in let f = fits j in let s = small j in let k = start-of j .pre .1 .kept in record { fits = omega arith }
 
 same-length : tie.Need-same-length
 same-length c = search needs
@@ -76,11 +59,20 @@ same-length-3 c = search needs
 
 returns : tie.Need-returns
 returns c =
-    let at-told = c .before .before .before .before .before .before in
-    let j = at-told .before .before .before .before .before .before in
+    let at-if = c .before .before .before .before .before .before in
+    let j = at-if .before .before .before .before .before .before in
     let a = start-of j .args in
-    keeps-piece _ (a .s) (a .t .now) (a .page .now) (a .room .now) (a .rows .now) (j .judge .result) _ _ (j .judge .ensures) (start-of j .pre .0 .more)
-    (at-told .enum-told .given .1) _ (c .before .before .before .lay .ensures)
+    keeps-piece (a .bytes .now) (a .s) (a .t .now) (a .page .now) (a .room .now) (a .rows .now) (j .judge .result) _ _ (j .judge .ensures)
+    (start-of j .pre .0 .more) (at-if .if1 .taken) _ (c .before .before .before .lay .ensures)
+
+cast-t28 : tie.Need-cast-t28
+cast-t28 c = search needs
+
+put-requires : tie.Need-put-requires
+put-requires c κs = search needs
+
+add-t32 : tie.Need-add-t32
+add-t32 c = let j = c .before .before .before .before .before .before .before .before .before .before .before in let f = fits j in let s = small j in let k = start-of j .pre .1 .drops in record { fits = omega arith }
 
 same-length-4 : tie.Need-same-length-4
 same-length-4 c = search needs
@@ -93,11 +85,11 @@ same-length-6 c = search needs
 
 returns-2 : tie.Need-returns-2
 returns-2 c =
-    let at-known = c .before .before .before .before .before .before in
-    let j = at-known .before .before .before .before .before .before in
+    let at-if = c .before .before .before .before .before in
+    let j = at-if .before .before .before .before .before .before in
     let a = start-of j .args in
-    drops-piece _ (a .s) (a .t .now) (a .page .now) (a .room .now) (a .rows .now) (j .judge .result) _ _ (j .judge .ensures) (start-of j .pre .0 .more)
-    _ (at-known .check .given .1) _ (c .before .before .before .before .number .ensures) _ (c .before .before .put .ensures)
+    drops-piece (a .bytes .now) (a .s) (a .t .now) (a .page .now) (a .room .now) (a .rows .now) (j .judge .result) _ _ (j .judge .ensures)
+    (start-of j .pre .0 .more) (at-if .if1 .left) _ (c .before .before .put .ensures)
 
 pub lap-spec : {M : Type 1} → statement M
 lap-spec =
@@ -105,21 +97,18 @@ lap-spec =
     (tie.spec
     judge-requires
     add-end
-    enum-told
     sub-lay
     part-lay-start
     part-lay-end
     lay-requires
-    add-t22
-    enum-known-check
-    number-requires
-    cast-t31
-    put-requires
-    add-t35
+    add-t20
     same-length
     same-length-2
     same-length-3
     returns
+    cast-t28
+    put-requires
+    add-t32
     same-length-4
     same-length-5
     same-length-6

@@ -3,7 +3,7 @@ use mathlib.Core.Path.{ap, _∙_}
 use Rattle.snapshot.proofs.Lists.{from-at}
 use Rattle.dayfile.specs.Reader.{reading}
 use Rattle.dayfile.specs.Pieces.{spanOf}
-use Rattle.mending.specs.Mending.{refusalBy}
+use Rattle.mending.proofs.Replies.{day-after, number-told}
 use borrow.Author.Needs.{needs}
 use Rattle.mending.proofs.judge.Statement.{statement}
 use Rattle.mending.proofs.judge.Tie as tie
@@ -32,11 +32,14 @@ part-span-end c = search needs
 span-requires : tie.Need-span-requires
 span-requires c κs = search needs
 
-asked-requires : tie.Need-asked-requires
-asked-requires c κs = search needs
+replied-requires : tie.Need-replied-requires
+replied-requires c κs = search needs
 
-check-of-requires : tie.Need-check-of-requires
-check-of-requires c κs = search needs
+day-in-requires : tie.Need-day-in-requires
+day-in-requires c κs = search needs
+
+number-of-requires : tie.Need-number-of-requires
+number-of-requires c κs = search needs
 
 same-length : tie.Need-same-length
 same-length c = search needs
@@ -46,18 +49,19 @@ same-length-2 c = search needs
 
 returns : tie.Need-returns
 returns c =
-    let at-asked = c .before .before .before .before .before in
-    let at-span = at-asked .before .before .before in
+    let at-replied = c .before .before .before .before .before in
+    let at-span = at-replied .before .before .before in
     let at-read = at-span .before .before in
     let a = at-read .before .before .before .before .args in
     let rest = from-at (a .at) (a .bytes .now) in
     let x = at-read .read .result in
+    let replied = at-replied .replied .ensures in
     record {
       found = x;
       read = at-read .read .ensures ∙ ap reading rest;
-      after = at-asked .asked .ensures .1;
+      after = day-after replied _ (c .before .day-in .ensures);
       sized = at-span .span .ensures ∙ ap (λ bs. spanOf bs x) rest;
-      checked = c .check-of .ensures ∙ ap (refusalBy x) (at-asked .asked .ensures .0);
+      numbered = number-told replied _ (c .number-of .ensures);
     }
 
 pub judge-spec : {M : Type 1} → statement M
@@ -72,8 +76,9 @@ judge-spec =
     part-span-start
     part-span-end
     span-requires
-    asked-requires
-    check-of-requires
+    replied-requires
+    day-in-requires
+    number-of-requires
     same-length
     same-length-2
     returns)

@@ -1,6 +1,6 @@
 -- `nq::nq_mend` meets its contract.
 use mathlib.Core.Path.{ap, _∙_}
-use Rattle.numbers.specs.Replies.{mendingNumbers}
+use Rattle.nq.specs.Requests.{mendingNumbers}
 use borrow.Author.Needs.{needs}
 use Rattle.nq.proofs.nq_mend.Statement.{statement}
 use Rattle.nq.proofs.nq_mend.Tie as tie

@@ -1,25 +1,18 @@
 -- `packed_days::asked` meets its contract.
 use Prim.Native.Nat.{_≤_}
-use native.Mathlib.Omega.{arith}
 use mathlib.Core.Path.{_≡_, sym, _∙_}
 use lib.ListN.{length, take}
-use lib.Seq.{length-take-le}
 use borrow.Author.Needs.{needs}
-use Rattle.days.proofs.Kept.{lentTo-le}
-use Rattle.packed_days.proofs.After.{unread-after, asked-after}
+use Rattle.packed_days.proofs.After.{unread-after, asked-after, lent-fits}
 use Rattle.packed_days.proofs.asked.Statement.{statement}
 use Rattle.packed_days.proofs.asked.Tie as tie
 
--- as many records as are lent, at most eight
+-- as many records as are lent
 fits : (c : tie.After-lent-to) → let t = c .before .before .before .before .before .args .t .now in
     (c .lent-to .result ≤ length t) × (c .lent-to .result ≡ length (take (c .lent-to .result) t))
 fits c =
     let held = c .before .before .before .before .before in
-    let eight = held .pre .0 in
-    let is = c .lent-to .ensures in
-    let few = lentTo-le (held .args .day) (c .before .request-of .result) in
-    let inside : c .lent-to .result ≤ length (held .args .t .now) = omega (arith, eight, is, few) in
-    (inside, sym (length-take-le (c .lent-to .result) (held .args .t .now) inside))
+    lent-fits (held .args .day) (c .before .request-of .result) (held .args .t .now) _ (held .pre .0) (c .lent-to .ensures)
 
 is-none-requires : tie.Need-is-none-requires
 is-none-requires c κs = search needs

@@ -1,9 +1,9 @@
--- `numbers::mending_of` meets its contract.
+-- `nq::mending_of` meets its contract.
 use mathlib.Core.Path.{sym, ap, _∙_}
-use Rattle.numbers.specs.Replies.{mendingNumbers}
+use Rattle.nq.specs.Requests.{mendingNumbers}
 use borrow.Author.Needs.{needs}
-use Rattle.numbers.proofs.mending_of.Statement.{statement}
-use Rattle.numbers.proofs.mending_of.Tie as tie
+use Rattle.nq.proofs.mending_of.Statement.{statement}
+use Rattle.nq.proofs.mending_of.Tie as tie
 
 enum-known-m : tie.Need-enum-known-m
 enum-known-m c = search needs
