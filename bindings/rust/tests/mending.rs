@@ -183,11 +183,12 @@ fn holds(file: &[u8], mended: &Mended, answers: &[Answer]) {
     assert_eq!(mend(&mended.kept), Mended { kept: mended.kept.clone(), dropped: Vec::new() });
 }
 
-/// The sample days that there are.
+/// The sample days that are not damaged.
 fn samples() -> Vec<Vec<u8>> {
     let samples = Path::new(env!("CARGO_MANIFEST_DIR")).join("../../samples");
     let paths = fs::read_dir(samples).unwrap().map(|entry| entry.unwrap().path());
     let days = paths.filter(|path| path.extension() == Some("day".as_ref()));
+    let days = days.filter(|path| path.file_stem() != Some("damaged".as_ref()));
     let days: Vec<Vec<u8>> = days.map(|path| fs::read(path).unwrap()).collect();
     assert_eq!(days.len(), 9);
     days
