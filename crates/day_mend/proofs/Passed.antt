@@ -6,7 +6,7 @@ use native.Mathlib.Omega.{arith}
 use mathlib.Core.Path.{_≡_, refl, sym, ap, _∙_, subst}
 use mathlib.Core.Logic.{by-cases}
 use mathlib.Core.Bool.{Bool, true, false, true≢false}
-use mathlib.Core.List.{List, [], _++_, map}
+use mathlib.Core.List.{List, [], _∷_, _++_, map}
 use lib.ListN.{length, take, drop, length-map, drop-of-length-le}
 use lib.Seq.{sets, length-sets, take-at}
 use Rattle.dayfile.specs.Pieces.{piecesUpTo, pieces}
@@ -17,8 +17,7 @@ use Rattle.mender.specs.Results.{rowOf, atFront}
 use Rattle.mender.specs.Passes.{stage, IsPassUpTo}
 use Rattle.mender.proofs.Passing.{drops-few}
 use Rattle.mender.proofs.Rooms.{pass-short, front-stored}
-use Rattle.mendlines.specs.DropText.{longestDrop, rowsText, dropsText}
-use Rattle.mendlines.proofs.Texts.{rows-text}
+use Rattle.mendlines.specs.DropText.{longestDrop, dropText, rowsText, dropsText}
 use Rattle.streams.specs.System.{IsSent}
 use Rattle.day_mend.specs.declared.Stand.{Stand}
 use Rattle.day_mend.specs.Runs.{Rooms, Tells, IsWritten, Writes, over, stops, goes-on, partsFrom, IsPassed}
@@ -28,6 +27,11 @@ stored-front : {A : Type 0} (xs output after : List A) (n : ℕ) → after ≡ s
     take n after ≡ xs
 stored-front xs output after n is long fits =
     ap (take n) (is ∙ front-stored xs output fits) ∙ take-at xs (drop (length xs) output) n (sym long)
+
+-- the text of rows is that of their drops
+rows-text : (ds : List Drop) → rowsText (map rowOf ds) ≡ dropsText ds
+rows-text [] = refl
+rows-text (d ∷ ds) = ap (λ t. dropText d ++ t) (rows-text ds)
 
 module _ (file : List ℕ) (s : Stand) (t : List (List ℕ)) (page room : List ℕ) (rows : List (List ℕ)) (p : Progress)
     (t′ : List (List ℕ)) (page′ room′ : List ℕ) (rows′ : List (List ℕ)) (lines : ℕ) (more : s .at < length file)

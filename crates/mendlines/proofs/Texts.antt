@@ -1,12 +1,11 @@
--- The parts of a line, as they are laid, are its text; the text of rows is that of their drops (`rows-text`); and a line, computed.
+-- The parts of a line, as they are laid, are its text; and a line, computed.
 use Prim.Native.Nat.{ℕ}
-use mathlib.Core.Path.{_≡_, refl, ap}
-use mathlib.Core.List.{List, [], _∷_, _++_, map, append-assoc, append-nil}
+use mathlib.Core.Path.{_≡_, refl}
+use mathlib.Core.List.{List, [], _∷_, _++_, append-assoc, append-nil}
 use Rattle.texts.specs.Ascii.{ascii}
 use Rattle.texts.specs.Decimal.{longDecimal}
 use Rattle.mending.specs.Mending.{Drop}
-use Rattle.mender.specs.Results.{rowOf}
-use Rattle.mendlines.specs.DropText.{dropText, dropsText, rowsText}
+use Rattle.mendlines.specs.DropText.{dropText, dropsText}
 
 parts : (t n t₁ m t₂ k end : List ℕ) → ((t ++ n) ++ (t₁ ++ m)) ++ (t₂ ++ k) ++ end ≡ (t ++ (n ++ (t₁ ++ (m ++ (t₂ ++ (k ++ [])))))) ++ end
 parts t n t₁ m t₂ k end = simp (append-assoc, append-nil)
@@ -20,10 +19,6 @@ unfolding dropText
 drop-text d =
     parts (ascii "dropped ") (longDecimal (d .count)) (ascii " at ") (longDecimal (d .first)) (ascii " refused ")
     (longDecimal (d .number)) (ascii "\n")
-
-pub rows-text : (ds : List Drop) → rowsText (map rowOf ds) ≡ dropsText ds
-rows-text [] = refl
-rows-text (d ∷ ds) = ap (λ t. dropText d ++ t) (rows-text ds)
 
 pub line : dropsText (record { first = 12; count = 6; number = 9 } ∷ record { first = 18; count = 1; number = 7 } ∷ [])
     ≡ ascii "dropped 6 at 12 refused 9\ndropped 1 at 18 refused 7\n"
