@@ -29,7 +29,7 @@ use Rattle.snapshot.proofs.Follows.{Tells, Follows}
 
 last_append : (j e : ℕ) (v : Value) (ws us : List Writing) → last_of j e v (ws ++ us) ≡ last_of j e (last_of j e v ws) us
 last_append j e v [] us = refl
-last_append j e v (w ∷ ws) us = last_append j e _ ws us
+last_append j e v (w ∷ ws) us = last_append j e (cond (eqb w.place j && leb w.number e) (stored w.number w.word) v) ws us
 
 -- writings numbered at most e
 abbrev Until : ℕ → List Writing → Type 0
@@ -46,7 +46,7 @@ last_later j e v (w ∷ ws) a =
     let l = a.0 in
     let seen = le-leb w.number (suc e) (omega arith) ∙ sym (le-leb w.number e l) in
     ap (λ b. last_of j (suc e) (cond (eqb w.place j && b) (stored w.number w.word) v) ws) seen
-    ∙ last_later j e _ ws a.1
+    ∙ last_later j e (cond (eqb w.place j && leb w.number e) (stored w.number w.word) v) ws a.1
 
 -- ---- the tally
 
