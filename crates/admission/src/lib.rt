@@ -6,7 +6,7 @@ pub mod outcomes;
 use snapshot::Refusal;
 
 // Whether there is a refusal.
-#[derive(Drop)]
+#[derive(Clone, Copy)]
 pub enum Check {
     Passed,
     Refused(Refusal),

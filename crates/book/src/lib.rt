@@ -8,7 +8,7 @@ use snapshot::Refusal;
 mod notes;
 
 // How many places of a book were written, and for how many processes the day is; or why none was.
-#[derive(Drop)]
+#[derive(Clone, Copy)]
 pub enum Booking {
     Written { places: usize, processes: u32 },
     Refused(Refusal),

@@ -10,7 +10,7 @@ use snapshot::{Day, Outcome};
 
 // How far a pass has come: the day, the place of the next record and the end of the file, whether all is done, how many operations
 // are finished, and for each process the word of its last update call.
-#[derive(Drop)]
+#[derive(Clone, Copy)]
 pub struct Notes {
     pub day: Day,
     pub at: usize,

@@ -7,7 +7,7 @@ ghost use Rattle.dayfile.specs.Pieces.{span_of};
 use snapshot::{Refusal, Request};
 
 // What the reader finds: a record, which is a request, and how many bytes it takes, the ordinary end, or a refusal.
-#[derive(Drop)]
+#[derive(Clone, Copy)]
 pub enum Reading {
     Found { record: Request, next: usize },
     End,

@@ -4,7 +4,7 @@ pub mod lines;
 
 // A printed line (document 01, Day files and the day runner; document 02, K1). The words of a page, and the
 // numbers of their last writings, lie in slices beside it.
-#[derive(Drop)]
+#[derive(Clone, Copy)]
 pub enum Line {
     // open COUNT
     Opened {

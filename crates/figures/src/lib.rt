@@ -8,7 +8,7 @@ use fractions::Fraction;
 use snapshot::Refusal;
 
 // How many pages there are, their mean turns, the share of those that are borrowed, and the turns of the one that took most.
-#[derive(Drop)]
+#[derive(Clone, Copy)]
 pub struct Figures {
     pub pages: u64,
     pub mean: Fraction,
@@ -17,14 +17,14 @@ pub struct Figures {
 }
 
 // The figures, or why there are none.
-#[derive(Drop)]
+#[derive(Clone, Copy)]
 pub enum Reckoning {
     Given(Figures),
     Refused(Refusal),
 }
 
 // Of the pages that were looked at: how many there are, their turns in all, how many are borrowed, and the most turns of one.
-#[derive(Drop)]
+#[derive(Clone, Copy)]
 pub struct Sums {
     pub pages: u64,
     pub turns: u64,

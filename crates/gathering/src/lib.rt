@@ -12,7 +12,7 @@ use dayfile::Reading;
 use snapshot::{Answer, Day, Outcome};
 
 // How many places of a list hold answers, and the number of the refusal that ended the file, or 0.
-#[derive(Drop)]
+#[derive(Clone, Copy)]
 pub struct Gathering {
     pub count: usize,
     pub refusal: u32,
@@ -20,7 +20,7 @@ pub struct Gathering {
 
 // How far a file has come: the day, the place of the next record, whether all is done and by which refusal, and how many answers are
 // gathered.
-#[derive(Drop)]
+#[derive(Clone, Copy)]
 pub struct Progress {
     pub day: Day,
     pub at: usize,

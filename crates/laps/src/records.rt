@@ -20,7 +20,7 @@ use unbounded::Process;
 const WHOLE: usize = 10;
 
 // How far a run has come: the day, the input, how much of the output is laid, and whether all is done.
-#[derive(Drop)]
+#[derive(Clone, Copy)]
 pub struct Progress {
     pub day: Day,
     pub input: Input,
@@ -29,7 +29,7 @@ pub struct Progress {
 }
 
 // How far a run has come, and its table, of which it lends as many records as the day has processes.
-#[derive(Drop)]
+#[derive(Clone, Copy)]
 pub struct Running {
     pub progress: Progress,
     pub table: [Process; 8],

@@ -11,14 +11,14 @@ ghost use Rattle.mender.specs.Passes.{blank_progress, stage, Steady, IsPass, IsP
 use snapshot::{Day, Refusal};
 
 // How many bytes are kept and how many pieces dropped; or why nothing was written.
-#[derive(Drop)]
+#[derive(Clone, Copy)]
 pub enum Mending {
     Written { kept: usize, drops: usize },
     Refused(Refusal),
 }
 
 // How far a file has come: the day, the place of the next byte, how many bytes are kept so far, and how many pieces dropped.
-#[derive(Drop)]
+#[derive(Clone, Copy)]
 pub struct Progress {
     pub day: Day,
     pub at: usize,

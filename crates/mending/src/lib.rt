@@ -7,7 +7,7 @@ use dayfile::Reading;
 use snapshot::Day;
 
 // A piece that was judged: the day after it, how many bytes it has, and the number of the refusal by which it is dropped, 0 if it is kept.
-#[derive(Drop)]
+#[derive(Clone, Copy)]
 pub struct Judged {
     pub day: Day,
     pub span: usize,

@@ -16,7 +16,7 @@ use snapshot::Day;
 
 // How many bytes of a mended day file were written and how many drops, or the number of a refusal; 0 where there is none.
 #[repr(C)]
-#[derive(Drop)]
+#[derive(Clone, Copy)]
 pub struct MendingNumbers {
     pub kept: u64,
     pub drops: u64,

@@ -15,7 +15,7 @@ use snapshot::{Answer, Day, Outcome, Request};
 // The day after a request, its answer (0 refused, 1 opened, 2 called, 3 read, 4 page, 5 written, 6 a run), the number of the
 // refusal, the lender and the instant of a page, and the turns of a task.
 #[repr(C)]
-#[derive(Drop)]
+#[derive(Clone, Copy)]
 pub struct ReplyNumbers {
     pub count: u32,
     pub event: u32,
@@ -28,7 +28,7 @@ pub struct ReplyNumbers {
 
 // A record of a day file: its kind there, its numbers, and how many bytes it takes; or the number of a refusal.
 #[repr(C)]
-#[derive(Drop)]
+#[derive(Clone, Copy)]
 pub struct RecordNumbers {
     pub refusal: u32,
     pub kind: u32,

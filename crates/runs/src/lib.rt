@@ -11,7 +11,7 @@ use admission::Check;
 use snapshot::{Day, Refusal};
 
 // What a run is to do: why it is refused, if it is, how many turns it gives, none if it is refused, and the places of a page.
-#[derive(Drop)]
+#[derive(Clone, Copy)]
 pub struct Plan {
     pub check: Check,
     pub turns: usize,
@@ -19,7 +19,7 @@ pub struct Plan {
 }
 
 // How far a run has come: the day, the turns that were given, and the words of the page table that they took.
-#[derive(Drop)]
+#[derive(Clone, Copy)]
 pub struct Reached {
     pub day: Day,
     pub turns: usize,
@@ -27,7 +27,7 @@ pub struct Reached {
 }
 
 // The day after a run, and why the run was refused, if it was.
-#[derive(Drop)]
+#[derive(Clone, Copy)]
 pub struct RunOutcome {
     pub day: Day,
     pub check: Check,

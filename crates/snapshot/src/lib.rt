@@ -4,14 +4,14 @@ ghost use Rattle.snapshot.specs.Refusals.{number_of};
 ghost use Rattle.snapshot.specs.Requests.{blank_day, number_in};
 
 // A day: its number of processes and its event number.
-#[derive(Drop)]
+#[derive(Clone, Copy)]
 pub struct Day {
     pub count: u32,
     pub event: u32,
 }
 
 // What a page shows of a register: its word, and the event number of its last writing, 0 if there was none.
-#[derive(Drop)]
+#[derive(Clone, Copy)]
 pub struct Value {
     pub word: u32,
     pub last: u32,
@@ -19,7 +19,7 @@ pub struct Value {
 
 // What is asked of a day: an opening with its count, an update call (document 01: an entry call) with its word, a scan call
 // (document 01: a page call), or a turn.
-#[derive(Drop)]
+#[derive(Clone, Copy)]
 pub enum Request {
     Open(u32),
     Update { process: u32, word: u32 },
@@ -28,7 +28,7 @@ pub enum Request {
 }
 
 // Why an item is refused, or more is asked than there is room for. The papers know these by their numbers.
-#[derive(Drop)]
+#[derive(Clone, Copy)]
 pub enum Refusal {
     CountRange,
     ProcessRange,
@@ -48,7 +48,7 @@ pub enum Refusal {
 }
 
 // The answer to an item. The values of a page lie in the lent page list.
-#[derive(Drop)]
+#[derive(Clone, Copy)]
 pub enum Answer {
     Refused(Refusal),
     Opened,
@@ -59,7 +59,7 @@ pub enum Answer {
 }
 
 // A day after an item, and the item's answer.
-#[derive(Drop)]
+#[derive(Clone, Copy)]
 pub struct Outcome {
     pub day: Day,
     pub answer: Answer,

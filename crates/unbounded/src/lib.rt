@@ -5,7 +5,7 @@ ghost use Rattle.unbounded.specs.Days.{reads_up_to8};
 use snapshot::Value;
 
 // A register (document 01: a row): its value, how often it was written, and the page that its writer had read, with its instant.
-#[derive(Drop)]
+#[derive(Clone, Copy)]
 pub struct Register {
     pub value: Value,
     pub seq: u32,
@@ -15,7 +15,7 @@ pub struct Register {
 
 // What a process is doing, with the accepted turns it has had (document 01: a desk's task). `Scan` is a page being read, `Update`
 // an entry being read with its word, `Ready` an entry ready to write with its word and the instant of its view.
-#[derive(Drop)]
+#[derive(Clone, Copy)]
 pub enum Task {
     Idle,
     Scan { turns: u32 },
@@ -25,7 +25,7 @@ pub enum Task {
 
 // A process (document 01: a desk's record): its register, its task, the two collects with the number of the turn that ended the
 // first, the view that a ready update keeps, and the marks.
-#[derive(Drop)]
+#[derive(Clone, Copy)]
 pub struct Process {
     pub register: Register,
     pub task: Task,

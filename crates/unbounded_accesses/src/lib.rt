@@ -3,7 +3,7 @@ pub mod accesses;
 
 // What the access of a turn goes by: the number of processes, the turn's own event number, and where its read stands in its
 // double collect.
-#[derive(Drop)]
+#[derive(Clone, Copy)]
 pub struct Access {
     pub n: usize,
     pub now: u32,

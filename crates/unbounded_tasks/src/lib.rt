@@ -4,7 +4,7 @@ use snapshot::Value;
 pub mod tasks;
 
 // What a turn found: a page with its instant and lender, or nothing yet; and how many processes its search for a lender passed.
-#[derive(Drop)]
+#[derive(Clone, Copy)]
 pub struct Find {
     pub found: bool,
     pub passed: usize,

@@ -1,0 +1,14 @@
+-- `fractions::gcd` meets its contract: each division keeps the greatest common divisor.
+use mathlib.Core.Path.{◌≡◌, refl, sym, ap, ◌∙◌}
+use native.Mathlib.Nat.{mod-lt}
+use native.Mathlib.Omega.{arith}
+use borrow.Author.Rules.{rules}
+use Rattle.fractions.specs.Fractions.{greatest_divisor}
+use Rattle.fractions.proofs.Divisors.{euclid, euclid_ends}
+use Rattle.fractions.proofs.gcd.Given as goal
+
+abbrev pub invariant-loop-y : goal.invariant-loop-y
+invariant-loop-y l = greatest_divisor l.x l.y ≡ greatest_divisor l.a l.b
+
+abbrev pub decreases-loop-y : goal.decreases-loop-y
+decreases-loop-y l = l.y

@@ -1,0 +1,18 @@
+use Prim.Native.Nat.{◌≤◌, ◌-◌}
+use mathlib.Core.Path.{◌≡◌, refl, ap, ◌∙◌}
+use lib.ListN.{get_or, set}
+use Rattle.snapshot.proofs.Lists.{over_more}
+use borrow.Author.Rules.{rules}
+use native.Mathlib.Omega.{arith}
+use Rattle.snapshot.specs.Lists.{over}
+use Rattle.snapshot.specs.Values.{zero_value}
+use Rattle.values.proofs.over_values.Goals as goal
+
+pub loop-i-preserved : goal.loop-i-preserved
+loop-i-preserved c =
+    let a = c.args in
+    let l = c.loop-i in (
+      omega arith,
+      ap (λ x. set x l.i (get_or a.t2 l.i zero_value)) l.invariant.1
+          ∙ over_more l.i a.t2 a.b zero_value (omega arith) (omega arith),
+    )
