@@ -12,5 +12,5 @@ returns c =
     let a = c.args in
     let l = c.loop-j in
     let all : l.j ≡ a.n = omega arith in
-    laid_all a.n a.t2 a.page.now c.requires.1 l.page (omega arith)
-    (subst (λ k. LaidTo a.n k a.t2 a.page.now l.page) all l.invariant.1)
+    laid_all a.n a.values a.page.now c.requires.1 l.page (omega arith)
+    (subst (λ k. LaidTo a.n k a.values a.page.now l.page) all l.invariant.1)

@@ -13,6 +13,6 @@ loop-i-preserved c =
     let a = c.args in
     let l = c.loop-i in (
       omega arith,
-      ap (λ x. set x l.i (get_or a.t2 l.i zero_value)) l.invariant.1
-          ∙ over_more l.i a.t2 a.b zero_value (omega arith) (omega arith),
+      ap (λ x. set x l.i (get_or a.a l.i zero_value)) l.invariant.1
+          ∙ over_more l.i a.a a.b zero_value (omega arith) (omega arith),
     )

@@ -19,17 +19,17 @@ turns-left most t q r due = leb-false most t (sym r ∙ sym (ap (overdue most) q
 pub returns-in-Scan : goal.returns-in-Scan
 returns-in-Scan c =
     let a = c.args in
-    let k = c.k-1.given in
+    let k = c.in-Scan in
     record {
-      value = c.position_of.ensures ∙ sym (ap (next_position a.n) k.1);
-      upper_bound = subst (λ x. x < 2 * a.n) (sym c.position_of.ensures) (position_low a.n k.0.0 (omega arith));
+      value = c.position_of.ensures ∙ sym (ap (next_position a.n) k.is);
+      upper_bound = subst (λ x. x < 2 * a.n) (sym c.position_of.ensures) (position_low a.n k.turns (omega arith));
     }
 
 pub returns-in-Update : goal.returns-in-Update
 returns-in-Update c =
     let a = c.args in
-    let k = c.k-in-Update-1.given in
+    let k = c.in-Update in
     record {
-      value = c.position_of-in-Update.ensures ∙ sym (ap (next_position a.n) k.1);
-      upper_bound = subst (λ x. x < 2 * a.n) (sym c.position_of-in-Update.ensures) (position_low a.n k.0.1.0 (omega arith));
+      value = c.position_of-in-Update.ensures ∙ sym (ap (next_position a.n) k.is);
+      upper_bound = subst (λ x. x < 2 * a.n) (sym c.position_of-in-Update.ensures) (position_low a.n k.turns (omega arith));
     }

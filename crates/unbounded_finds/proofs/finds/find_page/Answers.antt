@@ -19,8 +19,7 @@ use Rattle.unbounded_accesses.specs.Accesses.{Sound}
 use Rattle.unbounded_finds.specs.Finds.{nothing_found, decision_find, find_of}
 use Rattle.unbounded_finds.proofs.Passed.{find_passed}
 use borrow.Author.Rules.{rules}
-use Rattle.unbounded_finds.proofs.finds.find_page.Statement.{statement}
-use Rattle.unbounded_finds.proofs.finds.find_page.Tie as tie
+use Rattle.unbounded_finds.proofs.finds.find_page.Goals as goal
 
 module _ (a : Access) (r : Register) (p : Process) where
   abbrev x : List Register
@@ -70,63 +69,16 @@ module _ (a : Access) (r : Register) (p : Process) where
       ∙ (λ t. between (first t) (second t) (ended t))
       ∙ sym (ap (decision_find a.n end y) (decision_falls a.n ascending a.pos x y p.moved h)))
 
-add-if1 : tie.Need-overflow-add-if1
-add-if1 c = search rules
+pub returns-then-pos-n : goal.returns-then-pos-n
+returns-then-pos-n c =
+    let s = c.args in
+    let q = finds-nothing s.a s.r s.p _ c.requires c.if-pos-n.true c.nothing.ensures in
+    record { value = q.0; passed_bound = q.1 }
 
-mul-if1 : tie.Need-overflow-mul-if1
-mul-if1 c = search rules
-
-nothing-requires : tie.Need-nothing-requires
-nothing-requires c κs = search rules
-
-returns : tie.Need-returns
+pub returns : goal.returns
 returns c =
-    let start = c.before.before in
-    let s = start.args in
-    finds-nothing s.a s.r s.p _ start.requires c.before.if1.true c.nothing.ensures
-
-sub-i : tie.Need-overflow-sub-i
-sub-i c = search rules
-
-mul-old : tie.Need-overflow-mul-old
-mul-old c = search rules
-
-array-copy-out-old : tie.Need-array-copy-out-old
-array-copy-out-old c = search rules
-
-lay-requires : tie.Need-lay-requires
-lay-requires c κs = search rules
-
-mul-second : tie.Need-overflow-mul-second
-mul-second c = search rules
-
-array-set-from-second : tie.Need-array-set-from-second
-array-set-from-second c = search rules
-
-decide-requires : tie.Need-decide-requires
-decide-requires c κs = search rules
-
-returns-2 : tie.Need-returns-2
-returns-2 c =
-    let start = c.before.before.before.before.before.before.before in
-    let s = start.args in
-    let last = c.before.before.before.before.before.before.if1.false in
-    let laid = c.before.lay in
-    finds-last s.a s.r s.p _ laid.result start.requires last laid.ensures c.decide.ensures
-
-pub find-page-spec : {M : Type 1} → statement M
-find-page-spec =
-    tie.close
-    (tie.spec
-    add-if1
-    mul-if1
-    nothing-requires
-    returns
-    sub-i
-    mul-old
-    array-copy-out-old
-    lay-requires
-    mul-second
-    array-set-from-second
-    decide-requires
-    returns-2)
+    let s = c.args in
+    let last = c.if-pos-n.false in
+    let laid = c.lay in
+    let q = finds-last s.a s.r s.p _ laid.result c.requires last laid.ensures c.decide.ensures in
+    record { value = q.0; passed_bound = q.1 }
