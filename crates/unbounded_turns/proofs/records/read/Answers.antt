@@ -21,8 +21,7 @@ use Rattle.unbounded_turns.specs.Steps.{read_by}
 use Rattle.unbounded_tasks.specs.Tasks.{keeps_by}
 use Rattle.unbounded_turns.proofs.Parts.{with_collected}
 use borrow.Author.Rules.{rules}
-use Rattle.unbounded_turns.proofs.records.read.Statement.{statement}
-use Rattle.unbounded_turns.proofs.records.read.Tie as tie
+use Rattle.unbounded_turns.proofs.records.read.Goals as goal
 
 -- p with the marks of a search that passed k processes
 abbrev passes : ℕ → Process → Process
@@ -64,113 +63,48 @@ module _ (a : Access) (r : Register) (p : Process) where
       ∙ ap (λ k. second_after a.n k r p.second) back in
       λ i. with_collected (first i) (second i) (q i) p.view p.moved p
 
-end-of-requires : tie.Need-end-of-requires
-end-of-requires c κs = search rules
-
-mul-old : tie.Need-overflow-mul-old
-mul-old c = search rules
-
-element-copy-out-old : tie.Need-element-copy-out-old
-element-copy-out-old c = search rules
-
-lay-requires : tie.Need-lay-requires
-lay-requires c κs = search rules
-
-mul-t22 : tie.Need-overflow-mul-t22
-mul-t22 c = search rules
-
-element-set-from-q : tie.Need-element-set-from-q
-element-set-from-q c = search rules
-
-mul-old-2 : tie.Need-overflow-mul-old-2
-mul-old-2 c = search rules
-
-element-copy-out-old-2 : tie.Need-element-copy-out-old-2
-element-copy-out-old-2 c = search rules
-
-lay-requires-2 : tie.Need-lay-requires-2
-lay-requires-2 c κs = search rules
-
-mul-t28 : tie.Need-overflow-mul-t28
-mul-t28 c = search rules
-
-element-set-from-q-2 : tie.Need-element-set-from-q-2
-element-set-from-q-2 c = search rules
-
-keeps-requires : tie.Need-keeps-requires
-keeps-requires c κs = search rules
-
-over-values-requires : tie.Need-over-values-requires
-over-values-requires c κs = search rules
-
-mark-requires : tie.Need-mark-requires
-mark-requires c κs = search rules
-
 -- the record once r is stored
-at_stored : (c : tie.Joined1) → let s = c.before.before.before.before.args in
-    c.if1.q ≡ stored s.a s.r s.p s.p.view
+at_stored : (c : goal.Joined-pos-n) → let s = c.args in
+    c.if-pos-n.q ≡ stored s.a s.r s.p s.p.view
 at_stored c =
-    let s = c.before.before.before.before.args in
-    let end = c.before.end_of_lem in
+    let s = c.args in
+    let end = c.end_of_lem in
     ⊎_elim
     (λ w. w.3 ∙ in-first s.a s.r s.p w.2.result end.result w.0.taken w.2.ensures end.ensures)
     (λ w. w.3 ∙ in-second s.a s.r s.p w.2.result end.result w.0.left w.2.ensures end.ensures)
-    c.if1.branch
+    c.if-pos-n.branch
 
 -- the view that p has after it, by whether the page of f is kept
 abbrev viewAfter : Access → Process → Find → Bool → List Value
 viewAfter a p f b = cond b (over a.n f.words p.view) p.view
 
 -- the record once what the task keeps is stored too
-at-kept : (c : tie.Joined2) → let s = c.before.before.before.before.before.before.args in
-    c.if2.q ≡ stored s.a s.r s.p (viewAfter s.a s.p s.f (keeps_by s.f s.k))
+at-kept : (c : goal.Joined-keeps) → let s = c.args in
+    c.if-keeps.q ≡ stored s.a s.r s.p (viewAfter s.a s.p s.f (keeps_by s.f s.k))
 at-kept c =
-    let s = c.before.before.before.before.before.before.args in
+    let s = c.args in
     let q = at_stored c.before.before in
-    let k = c.before.keeps.ensures in
+    let k = c.keeps.ensures in
     let by : Bool → Process = λ b. stored s.a s.r s.p (viewAfter s.a s.p s.f b) in
     ⊎_elim
     (λ w. w.2
     ∙ (λ i. with_collected (q i).first (q i).second (q i).first_end (w.1.ensures i) (q i).moved (q i))
     ∙ ap by (sym w.0.taken ∙ k))
     (λ w. w.1 ∙ q ∙ ap by (sym w.0.left ∙ k))
-    c.if2.branch
+    c.if-keeps.branch
 
-returns : tie.Need-returns
+pub returns-then-f-gt0 : goal.returns-then-f-gt0
 unfolding read_by
-returns c =
-    let j = c.before.before.before.before.before.before in
-    let s = j.before.before.before.before.before.before.args in
-    let q = j.if2.q in
-    ap (λ ms. with_collected q.first q.second q.first_end q.view ms q) c.mark.ensures
-    ∙ ap (passes s.f.passed) (at-kept j)
+returns-then-f-gt0 c =
+    let s = c.args in
+    let q = c.if-keeps.q in
+    ap (λ ms. with_collected q.first q.second q.first_end q.view ms q) c.mark-moved.ensures
+    ∙ ap (passes s.f.passed) (at-kept c.before.before.before.before.before.before)
 
-returns-2 : tie.Need-returns-2
+pub returns-else-f-gt0 : goal.returns-else-f-gt0
 unfolding read_by
-returns-2 c =
-    let j = c.before.before in
-    let s = j.before.before.before.before.before.before.args in
+returns-else-f-gt0 c =
+    let s = c.args in
     let none : 0 ≡ s.f.passed = omega arith in
-    at-kept j
+    at-kept c.before.before
     ∙ ap (λ k. passes k (stored s.a s.r s.p (viewAfter s.a s.p s.f (keeps_by s.f s.k)))) none
-
-pub read_spec : {M : Type 1} → statement M
-read_spec =
-    tie.close
-    (tie.spec
-    end-of-requires
-    mul-old
-    element-copy-out-old
-    lay-requires
-    mul-t22
-    element-set-from-q
-    mul-old-2
-    element-copy-out-old-2
-    lay-requires-2
-    mul-t28
-    element-set-from-q-2
-    keeps-requires
-    over-values-requires
-    mark-requires
-    returns
-    returns-2)
