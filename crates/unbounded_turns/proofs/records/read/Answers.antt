@@ -22,6 +22,7 @@ use Rattle.unbounded_tasks.specs.Tasks.{keeps_by}
 use Rattle.unbounded_turns.proofs.Parts.{with_collected}
 use borrow.Author.Rules.{rules}
 use Rattle.unbounded_turns.proofs.records.read.Goals as goal
+use Rattle.unbounded_turns.proofs.records.read.Goals.{then-pos-n, else-pos-n, then-keeps, else-keeps}
 
 -- p with the marks of a search that passed k processes
 abbrev passes : ℕ → Process → Process
@@ -63,48 +64,49 @@ module _ (a : Access) (r : Register) (p : Process) where
       ∙ ap (λ k. second_after a.n k r p.second) back in
       λ i. with_collected (first i) (second i) (q i) p.view p.moved p
 
--- the record once r is stored
-at_stored : (c : goal.Joined-pos-n) → let s = c.args in
-    c.if-pos-n.q ≡ stored s.a s.r s.p s.p.view
-at_stored c =
-    let s = c.args in
-    let end = c.end_of_lem in
-    ⊎_elim
-    (λ w. w.3 ∙ in-first s.a s.r s.p w.2.result end.result w.0.taken w.2.ensures end.ensures)
-    (λ w. w.3 ∙ in-second s.a s.r s.p w.2.result end.result w.0.left w.2.ensures end.ensures)
-    c.if-pos-n.branch
-
 -- the view that p has after it, by whether the page of f is kept
-abbrev viewAfter : Access → Process → Find → Bool → List Value
-viewAfter a p f b = cond b (over a.n f.words p.view) p.view
-
--- the record once what the task keeps is stored too
-at-kept : (c : goal.Joined-keeps) → let s = c.args in
-    c.if-keeps.q ≡ stored s.a s.r s.p (viewAfter s.a s.p s.f (keeps_by s.f s.k))
-at-kept c =
-    let s = c.args in
-    let q = at_stored c.before.before in
-    let k = c.keeps.ensures in
-    let by : Bool → Process = λ b. stored s.a s.r s.p (viewAfter s.a s.p s.f b) in
-    ⊎_elim
-    (λ w. w.2
-    ∙ (λ i. with_collected (q i).first (q i).second (q i).first_end (w.1.ensures i) (q i).moved (q i))
-    ∙ ap by (sym w.0.taken ∙ k))
-    (λ w. w.1 ∙ q ∙ ap by (sym w.0.left ∙ k))
-    c.if-keeps.branch
+abbrev view_after : Access → Process → Find → Bool → List Value
+view_after a p f b = cond b (over a.n f.words p.view) p.view
 
 pub returns-then-f-gt0 : goal.returns-then-f-gt0
 unfolding read_by
 returns-then-f-gt0 c =
     let s = c.args in
+    let end = c.end_of in
+    let at_stored : c.if-pos-n.q ≡ stored s.a s.r s.p s.p.view =
+    elim c.if-pos-n.branch [
+      then-pos-n w ↦ w.q-is ∙ in-first s.a s.r s.p w.lay.result end.result w.if-pos-n.true w.lay.ensures end.ensures
+    | else-pos-n w ↦ w.q-is
+        ∙ in-second s.a s.r s.p w.lay-else-pos-n.result end.result w.if-pos-n.false w.lay-else-pos-n.ensures end.ensures ] in
+    let by : Bool → Process = λ b. stored s.a s.r s.p (view_after s.a s.p s.f b) in
+    let at_kept : c.if-keeps.q ≡ by (keeps_by s.f s.k) =
+    elim c.if-keeps.branch [
+      then-keeps w ↦ w.q-is
+        ∙ (λ i. with_collected (at_stored i).first (at_stored i).second (at_stored i).first_end
+          (w.over_values-view.ensures i) (at_stored i).moved (at_stored i))
+        ∙ ap by (sym w.if-keeps.true ∙ c.keeps.ensures)
+    | else-keeps w ↦ w.q-is ∙ at_stored ∙ ap by (sym w.if-keeps.false ∙ c.keeps.ensures) ] in
     let q = c.if-keeps.q in
     ap (λ ms. with_collected q.first q.second q.first_end q.view ms q) c.mark-moved.ensures
-    ∙ ap (passes s.f.passed) (at-kept c.before.before.before.before.before.before)
+    ∙ ap (passes s.f.passed) at_kept
 
 pub returns-else-f-gt0 : goal.returns-else-f-gt0
 unfolding read_by
 returns-else-f-gt0 c =
     let s = c.args in
+    let end = c.end_of in
+    let at_stored : c.if-pos-n.q ≡ stored s.a s.r s.p s.p.view =
+    elim c.if-pos-n.branch [
+      then-pos-n w ↦ w.q-is ∙ in-first s.a s.r s.p w.lay.result end.result w.if-pos-n.true w.lay.ensures end.ensures
+    | else-pos-n w ↦ w.q-is
+        ∙ in-second s.a s.r s.p w.lay-else-pos-n.result end.result w.if-pos-n.false w.lay-else-pos-n.ensures end.ensures ] in
+    let by : Bool → Process = λ b. stored s.a s.r s.p (view_after s.a s.p s.f b) in
+    let at_kept : c.if-keeps.q ≡ by (keeps_by s.f s.k) =
+    elim c.if-keeps.branch [
+      then-keeps w ↦ w.q-is
+        ∙ (λ i. with_collected (at_stored i).first (at_stored i).second (at_stored i).first_end
+          (w.over_values-view.ensures i) (at_stored i).moved (at_stored i))
+        ∙ ap by (sym w.if-keeps.true ∙ c.keeps.ensures)
+    | else-keeps w ↦ w.q-is ∙ at_stored ∙ ap by (sym w.if-keeps.false ∙ c.keeps.ensures) ] in
     let none : 0 ≡ s.f.passed = omega arith in
-    at-kept c.before.before
-    ∙ ap (λ k. passes k (stored s.a s.r s.p (viewAfter s.a s.p s.f (keeps_by s.f s.k)))) none
+    at_kept ∙ ap (λ k. passes k (stored s.a s.r s.p (view_after s.a s.p s.f (keeps_by s.f s.k)))) none
