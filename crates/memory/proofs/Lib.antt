@@ -1,3 +1,2 @@
--- What only proofs need: the facts that walks cite, and the types that they carry.
-pub mod Types
+-- What only proofs need: the facts that they cite of an accepted request.
 pub mod Accepted

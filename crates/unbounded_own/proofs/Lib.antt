@@ -1,2 +1,2 @@
--- What only proofs need: the types that walks carry.
-pub mod Types
+-- What only proofs need: a record cleared place by place.
+pub mod Clearing

@@ -1,0 +1,17 @@
+-- The collects are cleared, then the view, the marks and the end of the first collect are stored, then the task.
+use mathlib.Core.Path.{ap, ◌∙◌}
+use lib.ListN.{replicate}
+use Rattle.snapshot.specs.Lists.{over}
+use Rattle.snapshot.specs.Values.{zero_value}
+use Rattle.unbounded_turns.specs.Steps.{with_task}
+use Rattle.unbounded_turns.proofs.Parts.{with_end, with_marks, with_view}
+use Rattle.unbounded_turns.proofs.Steps.{begun_in_parts}
+use Rattle.unbounded_own.proofs.begin_own.Goals as goal
+
+pub returns : goal.returns
+returns c =
+    let a = c.args in
+    let cleared = c.clear_own.ensures in
+    let view = c.emptied_view-view.ensures ∙ ap (λ q. over a.a.n (replicate 8 zero_value) q.view) cleared in
+    (λ t. with_task a.k (with_end 0 (with_marks (c.unmarked-marks.ensures t) (with_view (view t) (cleared t)))))
+    ∙ begun_in_parts a.a a.k a.p.now
