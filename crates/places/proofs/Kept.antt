@@ -2,18 +2,16 @@
 -- book.
 use Prim.Native.Nat.{ℕ, ◌+◌, ◌≤◌, ◌<◌}
 use mathlib.Core.Path.{◌≡◌, refl, sym, ap, ap₂, ◌∙◌, subst}
+use mathlib.Core.Logic.{◌≢◌}
 use mathlib.Core.Bool.{true, false, ◌||◌, or-true}
 use mathlib.Core.List.{List, [], ◌∷◌}
 use lib.Dec.{ltb}
 use borrow.Author.Tests.{lt-ltb, le-ltb}
-use types.Run.{OneOf, miss}
-use denote.Enum.Declared.{tag_of}
 use Rattle.snapshot.specs.Requests.{number_in}
 use Rattle.snapshot.specs.Refusals.{outside}
 use Rattle.snapshot.specs.declared.Answer.{Answer}
 use Rattle.snapshot.specs.declared.Answer.TheVariants.{Refused, Opened, Called, Read, Page, Written}
 use Rattle.snapshot.specs.declared.Request.{Request}
-use Rattle.snapshot.specs.contracts.Answer as A
 use Rattle.places.specs.Places.{eight, put_in}
 use Rattle.places.specs.Answers.{word_of, words_after, count_after, book_after}
 
@@ -26,11 +24,11 @@ too_high d l = ap (λ b. ltb d 1 || b) (lt-ltb 8 d l) ∙ or-true (ltb d 1)
 pub a_process : (d : ℕ) → 1 ≤ d → d ≤ 8 → outside 1 8 d ≡ false
 a_process d l m = ap₂ ◌||◌ (le-ltb d 1 l) (le-ltb 8 d m)
 
-pub kept_all : (ws : List ℕ) (r : Request) (a : Answer) → OneOf (0 ∷ 1 ∷ 3 ∷ 4 ∷ 5 ∷ []) (tag_of A.the_type a) → ws ≡ words_after ws r a
+pub kept_all : (ws : List ℕ) (r : Request) (a : Answer) → a ≢ Called → ws ≡ words_after ws r a
 unfolding words_after
 kept_all ws r (Refused k) q = refl
 kept_all ws r Opened q = refl
-kept_all ws r Called q = absurd (miss (0 ∷ 1 ∷ 3 ∷ 4 ∷ 5 ∷ []) 2 tt q)
+kept_all ws r Called q = absurd (q refl)
 kept_all ws r Read q = refl
 kept_all ws r (Page lender at turns) q = refl
 kept_all ws r (Written turns) q = refl
