@@ -1,5 +1,5 @@
 -- The pieces of a file: none is empty, each record among them is read by itself, whatever follows it, and together they are the file
--- (`pieces-cut`). `pieces` is the first piece and then those of the rest (`pieces-unfold`).
+-- (`pieces_cut`). `pieces` is the first piece and then those of the rest (`pieces_unfold`).
 use Prim.Native.Nat.{ℕ, zero, suc, ◌+◌, ◌≤◌, ◌<◌, min}
 use native.Mathlib.Omega.{arith}
 use native.Mathlib.Nat.{not-suc-le-zero, le_refl, min-le_right, le-min, min-eq_right}

@@ -1,6 +1,6 @@
 -- The reader does not look past the ten bytes of the longest record: of ten and more it reads the same, whatever follows them
--- (`reading-prefix`). Nor does it look past a record: one that was found is found in its own bytes, whatever follows them
--- (`found-alone`).
+-- (`reading_prefix`). Nor does it look past a record: one that was found is found in its own bytes, whatever follows them
+-- (`found_alone`).
 use Prim.Native.Nat.{ℕ, zero, suc, ◌+◌, ◌*◌, ◌≤◌}
 use native.Mathlib.Omega.{arith}
 use mathlib.Core.Path.{◌≡◌, refl, sym, ap, ap₂, ◌∙◌}

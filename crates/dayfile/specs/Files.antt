@@ -15,6 +15,6 @@ unfoldable pub readings_up_to : ℕ → List ℕ → List Reading
 readings_up_to zero bs = []
 readings_up_to (suc most) bs = read_on (readings_up_to most) bs (reading bs)
 
--- the records of a file, and the refusal that ends it if one does; the count is no limit (proofs/Files, `readings-unfold`)
+-- the records of a file, and the refusal that ends it if one does; the count is no limit (proofs/Files, `readings_unfold`)
 unfoldable pub readings : List ℕ → List Reading
 readings bs = readings_up_to (length bs) bs

@@ -31,6 +31,6 @@ unfoldable pub pieces_up_to : ℕ → List ℕ → List Piece
 pieces_up_to zero bs = []
 pieces_up_to (suc most) bs = cut_on (pieces_up_to most) bs (reading bs)
 
--- "Read the file from end to end"; the count is no limit (proofs/Pieces, `pieces-unfold`)
+-- "Read the file from end to end"; the count is no limit (proofs/Pieces, `pieces_unfold`)
 unfoldable pub pieces : List ℕ → List Piece
 pieces bs = pieces_up_to (length bs) bs

@@ -1,4 +1,6 @@
 // The reader of day files: one record by the house layout, or the refusal that document 01's order asks for.
+#![tactic(auto)]
+
 ghost use Rattle.std.specs.Prelude.{◌≡◌, ◌+◌, ◌<◌, ◌≤◌, length};
 ghost use Rattle.dayfile.specs.Layout.{number_at, length_of};
 ghost use Rattle.dayfile.specs.Reader.{record_of, reading};

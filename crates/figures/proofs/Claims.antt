@@ -1,5 +1,5 @@
--- What holds of the figures: their fractions are in lowest terms (`mean-lowest`, `borrowed-lowest`), answers past the 65,536th change
--- nothing (`first-enough`), and the example of the request is what it says (`example`).
+-- What holds of the figures: their fractions are in lowest terms (`mean_lowest`, `borrowed_lowest`), answers past the 65,536th change
+-- nothing (`first_enough`), and the example of the request is what it says (`example`).
 use Prim.Native.Nat.{ℕ, ◌≤◌, ◌<◌}
 use native.Mathlib.Decide.{dec_le}
 use native.Mathlib.Omega.{arith}

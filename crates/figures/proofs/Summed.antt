@@ -1,4 +1,4 @@
--- The sums of the code are those of the definitions (`sums-come`), so that they give the figures (`figures-come`).
+-- The sums of the code are those of the definitions (`sums_come`), so that they give the figures (`figures_come`).
 use Prim.Native.Nat.{ℕ, suc, ◌+◌, max}
 use native.Mathlib.Nat.{add_assoc, max-zero, zero-max, zero-add}
 use native.Mathlib.Omega.{arith}

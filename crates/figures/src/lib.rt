@@ -1,5 +1,7 @@
 // Figures for the quarter: of page answers, each with its day's desk count, the mean turns of a page, the share of borrowed pages and
 // the largest turn count.
+#![tactic(auto)]
+
 ghost use Rattle.std.specs.Prelude.{◌≡◌, ◌≤◌, max, cond, map, eqb, length};
 ghost use Rattle.figures.specs.Figures.{answer_in, reckoned};
 ghost use Rattle.figures.specs.Sums.{no_sums, with_page, with_answer, sums_from, SumsOf, Grown};

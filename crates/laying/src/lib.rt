@@ -1,4 +1,6 @@
 // Any printed line (crate `daytext`), laid into a lent buffer where there is room for it.
+#![tactic(auto)]
+
 ghost use Rattle.std.specs.Prelude.{◌+◌, ◌≤◌, ◌≡◌, length};
 ghost use Rattle.texts.specs.Laying.{Laid};
 ghost use Rattle.daytext.specs.Lines.{body_of};

@@ -1,4 +1,6 @@
 // What the lines with a page tell (crate `daytext`), laid part by part. The answer is the place after what was laid.
+#![tactic(auto)]
+
 ghost use Rattle.std.specs.Prelude.{◌+◌, ◌*◌, ◌≤◌, [], ◌++◌, map, length};
 ghost use Rattle.texts.specs.Ascii.{ascii};
 ghost use Rattle.texts.specs.Decimal.{decimal};

@@ -1,4 +1,4 @@
--- A place put in a book whose first places ascend stands where `place` has it (`put-placed`).
+-- A place put in a book whose first places ascend stands where `place` has it (`put_placed`).
 use Prim.Native.Nat.{ℕ, zero, suc, ◌+◌, ◌≤◌, ◌<◌}
 use native.Mathlib.Omega.{arith}
 use native.Mathlib.Decide.{ℕ_discrete}

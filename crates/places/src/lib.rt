@@ -1,4 +1,6 @@
 // Places of a lent book: number, kind, process and eight words.
+#![tactic(auto)]
+
 ghost use Rattle.std.specs.Prelude.{◌≡◌, [], ◌∷◌, ◌≤◌, ◌<◌, length, get_or, take};
 ghost use Rattle.places.specs.Places.{eight, spot_in, room_in, put_in};
 

@@ -1,5 +1,7 @@
 // A run of turns, whatever the method: when it is refused, how many turns it has, and which places of the two lent tables each
 // turn takes. A method gives the turns.
+#![tactic(auto)]
+
 ghost use Rattle.std.specs.Prelude.{◌+◌, ◌*◌, ◌<◌, ◌≡◌, length, get_or, ltb};
 ghost use Rattle.snapshot.specs.Refusals.{first_cause};
 ghost use Rattle.snapshot.specs.Values.{page_places};

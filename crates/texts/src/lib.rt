@@ -1,4 +1,6 @@
 // Bytes and numbers as text, laid at a place of a lent buffer. The answer is the place after what was laid.
+#![tactic(auto)]
+
 ghost use Rattle.std.specs.Prelude.{◌≡◌, ◌+◌, ◌*◌, ◌≤◌, [], ◌∷◌, ◌++◌, map, length};
 ghost use Rattle.texts.specs.Decimal.{decimal, trailing_digits};
 ghost use Rattle.texts.specs.Laying.{spaced, with_text, Laid};

@@ -1,12 +1,8 @@
 -- `figures::sum_up` meets its contract.
 use Prim.Native.Nat.{◌-◌, ◌≤◌}
-use native.Mathlib.Numerals.{add-one}
-use native.Mathlib.Omega.{arith}
-use mathlib.Core.Path.{◌≡◌, refl, sym, ap, ap₂, ◌∙◌}
-use mathlib.Core.List.{[], map}
-use lib.ListN.{length, drop, drop_of_length-le}
-use lib.Seq.{drop-cons}
-use borrow.Author.Rules.{rules}
+use mathlib.Core.Path.{◌≡◌}
+use mathlib.Core.List.{map}
+use lib.ListN.{length, drop}
 use Rattle.figures.specs.Figures.{answer_in}
 use Rattle.figures.specs.Sums.{no_sums, sums_from, SumsOf}
 use Rattle.figures.proofs.sum_up.Given as goal

@@ -3,7 +3,6 @@ use native.Mathlib.Omega.{arith}
 use mathlib.Core.Path.{sym, ap, ◌∙◌}
 use mathlib.Core.Bool.{cond}
 use lib.ListN.{get_or}
-use borrow.Author.Rules.{rules}
 use borrow.Author.Tests.{eq-eqb, ne_eqb}
 use Rattle.figures.specs.Sums.{with_page, with_answer}
 use Rattle.figures.proofs.with_answer.Goals as goal
@@ -23,7 +22,7 @@ returns c =
     let a = c.args in
     let page = c.with_page.ensures in
     record {
-      value = page.0 ∙ sym (ap (λ b. cond b (with_page a.s (get_or a.answer.now 1 0) (get_or a.answer.now 2 0)) a.s)
+      value = page.value ∙ sym (ap (λ b. cond b (with_page a.s (get_or a.answer.now 1 0) (get_or a.answer.now 2 0)) a.s)
           (eq-eqb _ _ c.if-answer-desks.false));
-      grown = page.1;
+      grown = page.grown;
     }

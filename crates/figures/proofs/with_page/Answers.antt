@@ -1,7 +1,6 @@
 -- `figures::with_page` meets its contract.
 use Prim.Native.Nat.{◌+◌}
 use native.Mathlib.Omega.{arith}
-use borrow.Author.Rules.{rules}
 use Rattle.figures.specs.Sums.{with_page}
 use Rattle.figures.proofs.with_page.Goals as goal
 

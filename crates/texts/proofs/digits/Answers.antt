@@ -1,17 +1,15 @@
-use Prim.Native.Nat.{ℕ, suc, ◌+◌, ◌-◌, ◌/◌, ◌≤◌, ◌<◌}
+use Prim.Native.Nat.{ℕ, suc, ◌+◌, ◌-◌, ◌/◌, ◌<◌}
 use native.Mathlib.Omega.{arith}
 use mathlib.Core.List.{List}
-use mathlib.Core.Path.{◌≡◌, refl, sym, ap, ◌∙◌}
-use borrow.Author.Rules.{rules}
+use mathlib.Core.Path.{◌≡◌, sym, ap, ◌∙◌}
 use lib.ListN.{length, set, length-set}
 use Rattle.texts.specs.Decimal.{last_digit, trailing_digits}
 use Rattle.texts.specs.Laying.{with_text}
 use Rattle.texts.proofs.Numerals.{length_last_digits}
 use Rattle.texts.proofs.Laying.{laid_nothing, laid_last}
-
--- the last digit stored, and those before it laid, are all of them laid
 use Rattle.texts.proofs.digits.Goals as goal
 
+-- the last digit stored, and those before it laid, are all of them laid
 laid-digit : (out : List ℕ) (at j rest : ℕ) → at + j < length out
     → with_text (set out (at + j) (last_digit rest)) at (trailing_digits j (rest / 10)) ≡ with_text out at (trailing_digits (suc j) rest)
 laid-digit out at j rest h =

@@ -1,19 +1,16 @@
-use Prim.Native.Nat.{ℕ, zero, suc, ◌+◌, ◌-◌, ◌*◌, ◌≤◌, ◌<◌}
+use Prim.Native.Nat.{ℕ, zero, suc, ◌<◌}
 use native.Mathlib.Omega.{arith}
 use native.Mathlib.Nat.{not-suc-le-zero}
 use native.Mathlib.Numerals.{add-one}
 use mathlib.Core.Path.{◌≡◌, refl, sym, ap, ◌∙◌}
 use mathlib.Core.List.{List, [], ◌∷◌, ◌++◌, map, append_assoc, append-nil}
-use borrow.Author.Rules.{rules}
 use lib.ListN.{length, get_or, take}
-use lib.Seq.{take_all}
 use Rattle.texts.specs.Decimal.{decimal}
-use Rattle.texts.specs.Laying.{spaced, Laid}
+use Rattle.texts.specs.Laying.{spaced}
 use Rattle.texts.proofs.Laying.{laid_nothing, in_turn}
-
--- one number more
 use Rattle.texts.proofs.numbers.Goals as goal
 
+-- one number more
 spaced-more : (ns : List ℕ) (i : ℕ) → i < length ns
     → spaced (map decimal (take i ns)) ++ (32 ∷ decimal (get_or ns i 0)) ≡ spaced (map decimal (take (suc i) ns))
 spaced-more [] i h = absurd (not-suc-le-zero h)
@@ -25,12 +22,7 @@ spaced-more (n ∷ ns) (suc i) h =
 
 pub loop-i-init : goal.loop-i-init
 loop-i-init c =
-    (
-  omega arith,
-  omega arith,
-  refl,
-  record { buffer = sym (laid_nothing c.args.out.now c.args.at); end = omega arith },
-)
+    (omega arith, omega arith, refl, record { buffer = sym (laid_nothing c.args.out.now c.args.at); end = omega arith })
 
 pub loop-i-preserved : goal.loop-i-preserved
 loop-i-preserved c =

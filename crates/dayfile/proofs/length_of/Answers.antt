@@ -1,10 +1,10 @@
 -- `dayfile::length_of` meets its contract.
 use Prim.Native.Nat.{ℕ, zero, suc}
+use native.Mathlib.Omega.{arith}
 use mathlib.Core.Path.{◌≡◌, refl, sym, ap}
 use mathlib.Core.Logic.{◌≢◌}
 use Rattle.dayfile.specs.Layout.{length_of}
-use Rattle.dayfile.proofs.length_of.Statement.{statement}
-use Rattle.dayfile.proofs.length_of.Tie as tie
+use Rattle.dayfile.proofs.length_of.Goals as goal
 
 -- any other kind has no length
 unknown : (kind : ℕ) → kind ≢ 1 → kind ≢ 2 → kind ≢ 3 → kind ≢ 4 → 0 ≡ length_of kind
@@ -16,24 +16,21 @@ unknown (suc (suc (suc zero))) a b c d = absurd (c refl)
 unknown (suc (suc (suc (suc zero)))) a b c d = absurd (d refl)
 unknown (suc (suc (suc (suc (suc k))))) a b c d = refl
 
-returns : tie.Need-returns
+pub returns-in-1 : goal.returns-in-1
 unfolding length_of
-returns c = sym (ap length_of c.match.keys1)
+returns-in-1 c = sym (ap length_of c.in-1.is)
 
-returns-2 : tie.Need-returns-2
+pub returns-in-2 : goal.returns-in-2
 unfolding length_of
-returns-2 c = sym (ap length_of c.match.keys2)
+returns-in-2 c = sym (ap length_of c.in-2.is)
 
-returns-3 : tie.Need-returns-3
+pub returns-in-3 : goal.returns-in-3
 unfolding length_of
-returns-3 c = sym (ap length_of c.match.keys3)
+returns-in-3 c = sym (ap length_of c.in-3.is)
 
-returns-4 : tie.Need-returns-4
+pub returns-in-4 : goal.returns-in-4
 unfolding length_of
-returns-4 c = sym (ap length_of c.match.keys4)
+returns-in-4 c = sym (ap length_of c.in-4.is)
 
-returns-5 : tie.Need-returns-5
-returns-5 c = let n = c.match.rest in unknown _ n.0.0.0.1 n.0.0.1 n.0.1 n.1
-
-pub length-of-spec : {M : Type 1} → statement M
-length-of-spec = tie.close (tie.spec returns returns-2 returns-3 returns-4 returns-5)
+pub returns-in_default : goal.returns-in_default
+returns-in_default c = unknown c.args.kind (omega arith) (omega arith) (omega arith) (omega arith)
