@@ -3,19 +3,24 @@
 use Prim.Native.Nat.{ℕ}
 use mathlib.Core.Path.{◌≡◌, refl}
 use lib.ListN.{get_or}
-use Rattle.walks.proofs.Data.{Datum, a_u32}
-use Rattle.walks.proofs.Declared.{a_struct}
+use mir.Syntax.{w32}
+use mir.Val.{Val, Vals, vnil, vunit, vbool, vint, vfloat, vptr, vcode, vstruct}
 use mir.Fields.{get_v}
-use Rattle.walks.proofs.Owned.{vals_of}
 use Rattle.numbers.specs.declared.ReplyNumbers.{ReplyNumbers}
 use Rattle.numbers.specs.Replies.{reply_words}
-use Rattle.numbers.specs.contracts.ReplyNumbers as R
-use Rattle.numbers.proofs.ReplyNumbers.TheLaws as R'
+use Rattle.numbers.proofs.ReplyNumbers.TheLaws as R
 
-abbrev a_reply : Datum
-a_reply = a_struct R.the_type R'.lowers R'.the_plain R'.the_laws R'.the_copy refl
+-- the machine values of a struct's fields, in the order in which they lie
+abbrev fields_of : Val → Vals
+fields_of vunit = vnil
+fields_of (vbool b) = vnil
+fields_of (vint w n) = vnil
+fields_of (vfloat f x) = vnil
+fields_of (vptr b o) = vnil
+fields_of (vcode s) = vnil
+fields_of (vstruct vs) = vs
 
 pub reply_laid : (r : ReplyNumbers) →
-    let Laid : ℕ → Type 0 = λ j. get_v (vals_of (a_reply.spell r)) j ≡ a_u32.spell (get_or (reply_words r) j 0) in
+    let Laid : ℕ → Type 0 = λ j. get_v (fields_of (R.lowers.lowered r)) j ≡ vint w32 (get_or (reply_words r) j 0) in
     Laid 0 × Laid 1 × Laid 2 × Laid 3 × Laid 4 × Laid 5 × Laid 6
 reply_laid r = (refl, refl, refl, refl, refl, refl, refl)

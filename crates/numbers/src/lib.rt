@@ -1,4 +1,6 @@
 // What crosses to other languages, by numbers: requests, replies and the records of day files.
+#![tactic(auto)]
+
 ghost use Rattle.std.specs.Prelude.{◌≡◌, []};
 ghost use Rattle.snapshot.specs.Replies.{reply_of};
 ghost use Rattle.admission.specs.Checks.{as_option};

@@ -1,4 +1,6 @@
 // All records of a table of packed records: surveyed, of which only what refusal 11 looks at is unpacked, or set to 0.
+#![tactic(auto)]
+
 ghost use Rattle.std.specs.Prelude.{◌≡◌};
 ghost use mathlib.Core.List.{map, foldl};
 ghost use Rattle.unbounded.specs.Processes.{zero_process};

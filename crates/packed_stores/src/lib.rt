@@ -1,4 +1,6 @@
 // Each part of a process record laid over its place in the record's 369 words, which crate `packed` unpacks.
+#![tactic(auto)]
+
 ghost use Rattle.std.specs.Prelude.{◌≡◌, [], ◌∷◌, map, ◌+◌, ◌*◌, ◌≤◌, ◌<◌, length, take, set};
 ghost use Rattle.std.proofs.lemmas.List.Edits.{sets};
 ghost use Rattle.packed.specs.Packing.{pack_view, pack_register, pack_task, pack_collect, pack_mark, pack_record, stored_at};

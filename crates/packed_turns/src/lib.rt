@@ -1,5 +1,7 @@
 // The turns of Figure 3 on one packed record, in place: a call, a read and a write store the words that they change, the task and the
 // marks; a read that ends its double collect unpacks the record. Crate `unbounded_turns` has the same turns on a record by value.
+#![tactic(auto)]
+
 ghost use Rattle.std.specs.Prelude.{◌≡◌, not, ◌+◌, ◌*◌, ◌<◌, T};
 ghost use Rattle.unbounded.specs.Processes.{turns_of};
 ghost use Rattle.unbounded.specs.Registers.{zero_register};
