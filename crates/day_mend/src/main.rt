@@ -32,14 +32,14 @@ const ROOM: usize = 10240;
 const LINES: usize = 83968;
 
 // Whether standard output took all that was written, and whether every drop could be told.
-#[derive(Drop)]
+#[derive(Clone, Copy)]
 struct Writing {
     went: bool,
     told: bool,
 }
 
 // How far a file has come: the day, the place of the next byte, and how the writes went.
-#[derive(Drop)]
+#[derive(Clone, Copy)]
 struct Stand {
     day: Day,
     at: usize,
