@@ -1,13 +1,14 @@
 // The day's book: it reads a day file of at most 2,097,152 bytes from standard input and prints its finished operations in one
 // order, one line each, then `end` and how many there are. A longer file, or a read or a write that fails, ends the run with a
 // message on standard error.
+#![tactic(auto)]
+
 ghost use Rattle.std.specs.Prelude.{◌≡◌, ◌≤◌, length};
 ghost use Rattle.texts.specs.Laying.{Laid};
 ghost use Rattle.streams.specs.Input.{incoming};
 ghost use Rattle.day_book.specs.Runs.{LinesFit, book_of, written_of, IsBookRun};
 
 use book::Booking;
-use libc::{STDERR_FILENO, STDIN_FILENO};
 use streams::input::Input;
 use streams::{input, output};
 
@@ -22,7 +23,7 @@ const OUTPUT: usize = 2643517;
 
 // Lays the text of the book of a whole day file, and answers how many bytes it takes. With PLACES places it is not refused: no book
 // has more.
-fn lay(bytes: &[u8], places: &mut [[u32; 11]], out: &mut [u8]) -> usize
+fn lay(rt: &HostRuntime, bytes: &[u8], places: &mut [[u32; 11]], out: &mut [u8]) -> usize
     requires { LinesFit (length places.old) (length out.old) }
     ensures { Laid out.old 0 (book_of (length places.old) bytes.now) out.new result }
 {
@@ -33,17 +34,20 @@ fn lay(bytes: &[u8], places: &mut [[u32; 11]], out: &mut [u8]) -> usize
             processes,
         } => booklines::lay_book(places, count, processes as usize, out),
         Booking::Refused(_) => {
-            io::write_all(
-                STDERR_FILENO,
-                b"day_book: the book has more than 21845 places\n",
-            );
+            let _ = eprintln!(rt; "day_book: the book has more than 21845 places");
             0
         }
     }
 }
 
 // Lays what is to be written of an input; a read that failed was told where it failed.
-fn lay_input(input: Input, bytes: &[u8], places: &mut [[u32; 11]], out: &mut [u8]) -> usize
+fn lay_input(
+    rt: &HostRuntime,
+    input: Input,
+    bytes: &[u8],
+    places: &mut [[u32; 11]],
+    out: &mut [u8],
+) -> usize
     requires { (input.at ≡ 0) × (input.end ≤ length bytes.now) × LinesFit (length places.old) (length out.old) }
     ensures { Laid out.old 0
         (written_of (length places.old) (incoming input bytes.now)) out.new result }
@@ -52,30 +56,32 @@ fn lay_input(input: Input, bytes: &[u8], places: &mut [[u32; 11]], out: &mut [u8
         return 0;
     }
     if !input.last {
-        io::write_all(
-            STDERR_FILENO,
-            b"day_book: the day file has more than 2097152 bytes\n",
-        );
+        let _ = eprintln!(rt; "day_book: the day file has more than 2097152 bytes");
         return 0;
     }
     let end = input.end;
-    lay(&bytes[..end], places, out)
+    lay(rt, &bytes[..end], places, out)
 }
 
 // Reads the whole input, and writes the text of its book.
-fn run(bytes: &mut [u8], places: &mut [[u32; 11]], out: &mut [u8]) -> bool
+fn run(rt: &HostRuntime, bytes: &mut [u8], places: &mut [[u32; 11]], out: &mut [u8]) -> bool
     requires { LinesFit (length places.old) (length out.old) }
     ensures { IsBookRun (length places.old) bytes.new out.old out.new result }
 {
-    let input = input::whole(STDIN_FILENO, bytes, b"day_book: cannot read standard input");
-    let n = lay_input(input, bytes, places, out);
-    output::write_out(out, n, b"day_book: cannot write standard output")
+    let input = input::whole(
+        &mut rt.stdin(),
+        bytes,
+        b"day_book: cannot read standard input",
+        &mut rt.stderr(),
+    );
+    let n = lay_input(rt, input, bytes, places, out);
+    output::write_out(rt, out, n, b"day_book: cannot write standard output")
 }
 
 // The run, with room for the longest day file and the book of any.
-fn main() {
+fn main(rt: HostRuntime) {
     let mut bytes = [0u8; INPUT];
     let mut places = [[0u32; 11]; PLACES];
     let mut out = [0u8; OUTPUT];
-    run(&mut bytes, &mut places, &mut out);
+    run(&rt, &mut bytes, &mut places, &mut out);
 }

@@ -1,11 +1,14 @@
 // Figures for the quarter: its arguments are a desk count and the names of day files of at most 2,097,152 bytes each. It runs each as
 // the day runner does, and prints the figures of their pages on days with that desk count, or `refused` and a number. Where a file
 // cannot be read, or is longer, it names it on standard error and prints nothing.
+#![tactic(auto)]
+
 ghost use Rattle.std.specs.Prelude.{◌≡◌, true, ◌-◌, ◌≤◌, ◌<◌, length};
 ghost use Rattle.texts.specs.Laying.{Laid};
 ghost use Rattle.day_figures.specs.Runs.{line_of, IsFiguresRun};
 
 use quarters::Quarter;
+use std::env::{Env, FillError};
 use streams::output;
 use words::Word;
 
@@ -41,6 +44,7 @@ fn lay(desks: u32, q: Quarter, answers: &[[u32; 3]], out: &mut [u8]) -> usize
 
 // Reads the files that the arguments from the third to the last of n name, and writes the line of their figures.
 fn run(
+    rt: &HostRuntime,
     desks: u32,
     n: usize,
     label: &mut [u8],
@@ -51,13 +55,13 @@ fn run(
     requires { (2 ≤ n) × (25 ≤ length label.old) × (65535 < length answers.old) × (272 ≤ length out.old) }
     ensures { IsFiguresRun desks (n - 2) (length bytes.old) out.old out.new result }
 {
-    let q = quarters::read_days(n, label, bytes, answers);
+    let q = quarters::read_days(rt, n, label, bytes, answers, &mut rt.stderr());
     let end = lay(desks, q, answers, out);
-    output::write_out(out, end, b"day_figures: cannot write standard output")
+    output::write_out(rt, out, end, b"day_figures: cannot write standard output")
 }
 
 // The run, with room for the longest day file, for more answers than figures are made of, and for the line.
-fn start(desks: u32, n: usize)
+fn start(rt: &HostRuntime, desks: u32, n: usize)
     requires { 2 ≤ n }
 {
     let mut label = [0u8; LABEL];
@@ -65,30 +69,38 @@ fn start(desks: u32, n: usize)
     let mut answers = [[0u32; 3]; ANSWERS];
     let mut out = [0u8; OUTPUT];
     texts::bytes(b"day_figures: cannot read ", &mut label, 0);
-    run(desks, n, &mut label, &mut bytes, &mut answers, &mut out);
+    run(rt, desks, n, &mut label, &mut bytes, &mut answers, &mut out);
 }
 
 // Reads the desk count, which is the first of n arguments, and starts the run with it.
-fn begin(n: usize, word: &mut [u8])
+fn begin(rt: &HostRuntime, n: usize, word: &mut [u8])
     requires { 2 ≤ n }
 {
-    let k = os::arg(1, word);
-    if os::errno() != 0 {
-        messages::long_number();
-        return;
-    }
-    match words::read(&word[..k]) {
-        Word::Number(desks) => start(desks, n),
-        Word::Other => messages::no_number(&word[..k]),
+    match rt.arg(1, word) {
+        Ok(k) => match words::read(&word[..k]) {
+            Word::Number(desks) => start(rt, desks, n),
+            Word::Other => messages::no_number(rt, &word[..k]),
+        },
+        Err(_) => messages::long_number(rt),
     }
 }
 
-fn main() {
-    let n = os::arg_count();
+// How many arguments there are, the program's name among them.
+fn arguments(rt: &HostRuntime) -> usize {
+    for i in 0..usize::MAX {
+        if let Err(FillError::NotPresent) = rt.arg(i, &mut []) {
+            return i;
+        }
+    }
+    usize::MAX
+}
+
+fn main(rt: HostRuntime) {
+    let n = arguments(&rt);
     if n < 2 {
-        messages::usage();
+        messages::usage(&rt);
         return;
     }
     let mut word = [0u8; WORD];
-    begin(n, &mut word);
+    begin(&rt, n, &mut word);
 }

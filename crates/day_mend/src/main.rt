@@ -1,6 +1,8 @@
 // Mends a damaged day file: it reads one of at most 6,291,456 bytes from standard input, writes the records that are kept to standard
 // output, and tells on standard error what was dropped, one line a drop. A longer file, or a read or a write that fails, ends the run with
 // a message on standard error; of a file that did not come whole nothing is written.
+#![tactic(auto)]
+
 ghost use Rattle.std.specs.Prelude.{◌≡◌, true, ◌*◌, ◌≤◌, length, take};
 ghost use Rattle.snapshot.specs.Requests.{blank_day};
 ghost use Rattle.packed_rows.specs.Rows.{LongRows};
@@ -12,7 +14,6 @@ ghost use Rattle.mendlines.specs.DropText.{longest_drop, rows_text};
 ghost use Rattle.streams.specs.Input.{incoming};
 ghost use Rattle.day_mend.specs.Runs.{Rooms, Tells, IsWritten, Writes, IsPassed, parts_written, IsMendRun};
 
-use libc::{STDERR_FILENO, STDIN_FILENO};
 use mender::Progress;
 use snapshot::Day;
 use streams::input::Input;
@@ -31,14 +32,14 @@ const ROOM: usize = 10240;
 const LINES: usize = 83968;
 
 // Whether standard output took all that was written, and whether every drop could be told.
-#[derive(Drop)]
+#[derive(Clone, Copy)]
 struct Writing {
     went: bool,
     told: bool,
 }
 
 // How far a file has come: the day, the place of the next byte, and how the writes went.
-#[derive(Drop)]
+#[derive(Clone, Copy)]
 struct Stand {
     day: Day,
     at: usize,
@@ -47,7 +48,7 @@ struct Stand {
 }
 
 // Tells the drops of the first `count` rows. Once one could not be told no more are, so that what is told is a beginning of the list.
-fn tell(telling: bool, rows: &[[u64; 3]], count: usize, lines: &mut [u8]) -> bool
+fn tell(rt: &HostRuntime, telling: bool, rows: &[[u64; 3]], count: usize, lines: &mut [u8]) -> bool
     requires { (count ≤ length rows.now) × (longest_drop * count ≤ length lines.old) }
     ensures { Tells telling (rows_text (take count rows.now)) result }
 {
@@ -56,15 +57,17 @@ fn tell(telling: bool, rows: &[[u64; 3]], count: usize, lines: &mut [u8]) -> boo
     }
     let n = mendlines::lay_rows(rows, count, lines);
     output::write_to(
-        STDERR_FILENO,
+        &mut rt.stderr(),
         lines,
         n,
         b"day_mend: cannot write standard error",
+        &mut rt.stderr(),
     )
 }
 
 // Writes what is kept, and tells what is dropped. A drop that cannot be told does not hold up the file.
 fn write_pass(
+    rt: &HostRuntime,
     s: Progress,
     telling: bool,
     room: &[u8],
@@ -74,18 +77,19 @@ fn write_pass(
     requires { (s.kept ≤ length room.now) × (s.drops ≤ length rows.now) × (longest_drop * s.drops ≤ length lines.old) }
     ensures { IsWritten (take s.kept room.now) (rows_text (take s.drops rows.now)) telling result.went result.told }
 {
-    if !output::write_out(room, s.kept, b"day_mend: cannot write standard output") {
+    if !output::write_out(rt, room, s.kept, b"day_mend: cannot write standard output") {
         return Writing {
             went: false,
             told: telling,
         };
     }
-    let told = tell(telling, rows, s.drops, lines);
+    let told = tell(rt, telling, rows, s.drops, lines);
     Writing { went: true, told }
 }
 
 // Mends the next pieces of a file, and writes what they come to.
 fn pass_on(
+    rt: &HostRuntime,
     s: Stand,
     bytes: &[u8],
     t: &mut [[u32; 369]],
@@ -105,7 +109,7 @@ fn pass_on(
         drops: 0,
     };
     let p = mender::pass(from, PIECES, bytes, t, page, room, rows);
-    let w = write_pass(p, s.told, room, rows, lines);
+    let w = write_pass(rt, p, s.told, room, rows, lines);
     let after = p.day;
     Stand {
         day: after,
@@ -117,6 +121,7 @@ fn pass_on(
 
 // Mends a file, some pieces at a time, on a table and a page list.
 fn passes(
+    rt: &HostRuntime,
     bytes: &[u8],
     t: &mut [[u32; 369]],
     page: &mut [u32],
@@ -135,7 +140,7 @@ fn passes(
         told: true,
     };
     while s.went && s.at < bytes.len() {
-        s = pass_on(s, bytes, t, page, room, rows, lines);
+        s = pass_on(rt, s, bytes, t, page, room, rows, lines);
     }
     Writing {
         went: s.went,
@@ -144,13 +149,19 @@ fn passes(
 }
 
 // Mends a file from a blank day on.
-fn mend(bytes: &[u8], room: &mut [u8], rows: &mut [[u64; 3]], lines: &mut [u8]) -> Writing
+fn mend(
+    rt: &HostRuntime,
+    bytes: &[u8],
+    room: &mut [u8],
+    rows: &mut [[u64; 3]],
+    lines: &mut [u8],
+) -> Writing
     requires { Rooms (length room.old) (length rows.old) (length lines.old) }
     ensures { Writes 0 true (parts_of bytes.now) result.went result.told }
 {
     let mut t = [[0u32; 369]; 8];
     let mut page = [0u32; 16];
-    passes(bytes, &mut t, &mut page, room, rows, lines)
+    passes(rt, bytes, &mut t, &mut page, room, rows, lines)
 }
 
 // Nothing was to be written.
@@ -165,6 +176,7 @@ fn nothing() -> Writing
 
 // Mends an input that came whole; a read that failed was told where it failed.
 fn mend_input(
+    rt: &HostRuntime,
     input: Input,
     bytes: &[u8],
     room: &mut [u8],
@@ -178,30 +190,38 @@ fn mend_input(
         return nothing();
     }
     if !input.last {
-        io::write_all(
-            STDERR_FILENO,
-            b"day_mend: the day file has more than 6291456 bytes\n",
-        );
+        let _ = eprintln!(rt; "day_mend: the day file has more than 6291456 bytes");
         return nothing();
     }
     let end = input.end;
-    mend(&bytes[..end], room, rows, lines)
+    mend(rt, &bytes[..end], room, rows, lines)
 }
 
 // Reads the whole input, and mends it.
-fn run(bytes: &mut [u8], room: &mut [u8], rows: &mut [[u64; 3]], lines: &mut [u8]) -> Writing
+fn run(
+    rt: &HostRuntime,
+    bytes: &mut [u8],
+    room: &mut [u8],
+    rows: &mut [[u64; 3]],
+    lines: &mut [u8],
+) -> Writing
     requires { Rooms (length room.old) (length rows.old) (length lines.old) }
     ensures { IsMendRun bytes.new result.went result.told }
 {
-    let input = input::whole(STDIN_FILENO, bytes, b"day_mend: cannot read standard input");
-    mend_input(input, bytes, room, rows, lines)
+    let input = input::whole(
+        &mut rt.stdin(),
+        bytes,
+        b"day_mend: cannot read standard input",
+        &mut rt.stderr(),
+    );
+    mend_input(rt, input, bytes, room, rows, lines)
 }
 
 // The run, with room for the longest day file.
-fn main() {
+fn main(rt: HostRuntime) {
     let mut bytes = [0u8; INPUT];
     let mut room = [0u8; ROOM];
     let mut rows = [[0u64; 3]; PIECES];
     let mut lines = [0u8; LINES];
-    run(&mut bytes, &mut room, &mut rows, &mut lines);
+    run(&rt, &mut bytes, &mut room, &mut rows, &mut lines);
 }

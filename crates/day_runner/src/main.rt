@@ -1,5 +1,7 @@
 // The day runner: it reads a day file of any length from standard input, in constant memory, and prints one line a record, then
 // `end` and the event number. A read or a write that fails ends the run with a message on standard error.
+#![tactic(auto)]
+
 ghost use Rattle.std.specs.Prelude.{◌≡◌, false, length};
 ghost use Rattle.laps.specs.Laps.{blank_stand};
 ghost use Rattle.laps.specs.Progress.{Rests, stand_of};
@@ -16,18 +18,24 @@ const INPUT: usize = 6138;
 const OUTPUT: usize = 278528;
 
 // A pass: one read fills up the input, the records that lie whole in it are run, and their lines are written.
-fn pass(r: Running, bytes: &mut [u8], out: &mut [u8], page: &mut [u32]) -> Running
+fn pass(rt: &HostRuntime, r: Running, bytes: &mut [u8], out: &mut [u8], page: &mut [u32]) -> Running
     requires { Rests r.progress (length bytes.old) (length out.old) (length page.old) × (r.progress.ended ≡ false) }
     ensures rests { Rests result.progress (length bytes.new) (length out.new) (length page.new) }
     ensures pass { IsPass
         (stand_of r page.old bytes.old out.old)
         (stand_of result page.new bytes.new out.new) }
 {
-    let at = r.progress;
-    let before = at.input;
-    let input = input::refill(bytes, before, b"day_runner: cannot read standard input");
+    let before = r.progress.input;
+    let input = input::refill(
+        &mut rt.stdin(),
+        bytes,
+        before,
+        b"day_runner: cannot read standard input",
+        &mut rt.stderr(),
+    );
     let ran = records::run(records::refilled(r, input), bytes, out, page);
     let went = output::write_out(
+        rt,
         out,
         ran.progress.written,
         b"day_runner: cannot write standard output",
@@ -36,7 +44,14 @@ fn pass(r: Running, bytes: &mut [u8], out: &mut [u8], page: &mut [u32]) -> Runni
 }
 
 // Passes until all is done, at most that many: a proved loop has to end, and nothing says that the input does.
-fn passes(r: Running, most: u64, bytes: &mut [u8], out: &mut [u8], page: &mut [u32]) -> Running
+fn passes(
+    rt: &HostRuntime,
+    r: Running,
+    most: u64,
+    bytes: &mut [u8],
+    out: &mut [u8],
+    page: &mut [u32],
+) -> Running
     requires rests { Rests r.progress (length bytes.old) (length out.old) (length page.old) }
     requires out_value { stand_of r page.old bytes.old out.old ≡ blank_stand }
     ensures { IsRun most (stand_of result page.new bytes.new out.new) }
@@ -44,16 +59,23 @@ fn passes(r: Running, most: u64, bytes: &mut [u8], out: &mut [u8], page: &mut [u
     let mut ran = r;
     let mut left = most;
     while left > 0 && !ran.progress.ended {
-        ran = pass(ran, bytes, out, page);
+        ran = pass(rt, ran, bytes, out, page);
         left -= 1;
     }
     ran
 }
 
 // The passes are counted down from a number that none uses up.
-fn main() {
+fn main(rt: HostRuntime) {
     let mut bytes = [0u8; INPUT];
     let mut out = [0u8; OUTPUT];
     let mut page = [0u32; 16];
-    passes(records::start(), u64::MAX, &mut bytes, &mut out, &mut page);
+    passes(
+        &rt,
+        records::start(),
+        u64::MAX,
+        &mut bytes,
+        &mut out,
+        &mut page,
+    );
 }

@@ -1,4 +1,6 @@
 // Numbers of up to 64 bits as text, laid at a place of a lent buffer. The answer is the place after what was laid.
+#![tactic(auto)]
+
 ghost use Rattle.std.specs.Prelude.{◌+◌, ◌≤◌, ◌++◌, length};
 ghost use Rattle.texts.specs.Decimal.{long_decimal};
 ghost use Rattle.texts.specs.Laying.{Laid};

@@ -4,7 +4,6 @@ use native.Mathlib.Omega.{arith}
 use mathlib.Core.Path.{◌≡◌, refl, sym, ap, ◌∙◌, subst}
 use mathlib.Core.Bool.{Bool, true, false, ◌&&◌, true≢false}
 use mathlib.Core.List.{List, [], ◌∷◌, ◌++◌, map, append_assoc, append-nil}
-use lib.IntN.{ℤ, pos, negsuc}
 use lib.ListN.{length, length-append}
 use Rattle.snapshot.proofs.Booleans.{and_both}
 use Rattle.days.specs.Happenings.{day_of}
@@ -23,17 +22,17 @@ use Rattle.quarters.specs.Days.{IsOpened, IsTried, AllDays, is_whole, all_whole,
 pub tried_within : {i : Input} {bytes : List ℕ} → IsTried i bytes → (i.at ≡ 0) × (i.end ≤ length bytes)
 tried_within {i} {bytes} t = go t.opening t.opened
   where
-    go : (z : ℤ) → IsOpened z i bytes → (i.at ≡ 0) × (i.end ≤ length bytes)
-    go (pos k) whole = (whole.front, whole.within.stop)
-    go (negsuc k) none = (ap (λ j. j.at) none, subst (λ k. k ≤ length bytes) (sym (ap (λ j. j.end) none)) (omega arith))
+    go : (z : Bool) → IsOpened z i bytes → (i.at ≡ 0) × (i.end ≤ length bytes)
+    go true whole = (whole.front, whole.within.stop)
+    go false none = (ap (λ j. j.at) none, subst (λ k. k ≤ length bytes) (sym (ap (λ j. j.end) none)) (omega arith))
 
 -- and where nothing failed it was read whole
 pub tried_whole : {i : Input} {bytes : List ℕ} → IsTried i bytes → i.failed ≡ false → IsWhole i bytes
 tried_whole {i} {bytes} t good = go t.opening t.opened
   where
-    go : (z : ℤ) → IsOpened z i bytes → IsWhole i bytes
-    go (pos k) whole = whole
-    go (negsuc k) none = absurd (true≢false (sym (ap (λ j. j.failed) none) ∙ good))
+    go : (z : Bool) → IsOpened z i bytes → IsWhole i bytes
+    go true whole = whole
+    go false none = absurd (true≢false (sym (ap (λ j. j.failed) none) ∙ good))
 
 -- ---- one day
 

@@ -1,5 +1,5 @@
 -- The days of a quarter: what was read of each file, and that the page answers of all are gathered. What a read gives is the system's.
-use Rattle.std.specs.Prelude.{ℕ, ◌≡◌, Bool, true, not, ◌&&◌, List, [], ◌∷◌, map, ℤ, pos, negsuc, length}
+use Rattle.std.specs.Prelude.{ℕ, ◌≡◌, Bool, true, false, not, ◌&&◌, List, [], ◌∷◌, map, length}
 use Rattle.figures.specs.Figures.{PageAnswer}
 use Rattle.days.specs.Happenings.{day_of}
 use Rattle.gathering.specs.Answers.{answers_in, quarter_of}
@@ -11,14 +11,14 @@ use Rattle.quarters.specs.declared.Quarter.{Quarter}
 
 -- ---- what was read
 
--- what comes of a file whose opening is answered so: below 0 a failure, else what its reads give
-abbrev pub IsOpened : ℤ → Input → List ℕ → Type 0
-IsOpened (pos k) i bytes = IsWhole i bytes
-IsOpened (negsuc k) i bytes = i ≡ record { at = 0; end = 0; last = true; failed = true }
+-- what comes of a file that was opened: what its reads give; of one that was not a failure
+abbrev pub IsOpened : Bool → Input → List ℕ → Type 0
+IsOpened true i bytes = IsWhole i bytes
+IsOpened false i bytes = i ≡ record { at = 0; end = 0; last = true; failed = true }
 
 -- a file was opened, or not, and read into bytes
 pub record IsTried (i : Input) (bytes : List ℕ) : Type 0 where
-  pub opening : ℤ
+  pub opening : Bool
   pub opened : IsOpened opening i bytes
 
 -- d came of a file that was tried with a buffer of that size

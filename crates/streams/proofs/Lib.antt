@@ -1,5 +1,4 @@
--- Whether an answer of the system is below 0 and what it comes to, and reading a whole input.
-pub mod Signs
+-- What an answer of the system comes to, and reading a whole input.
 pub mod Transfers
 pub mod Refilling
 pub mod Whole

@@ -1,12 +1,16 @@
 -- What the system answers to a read or a write.
-use Rattle.std.specs.Prelude.{ℕ, ◌≤◌, min, ◌≡◌, Bool, false, List, [], ◌∷◌, ◌⊎◌, ℤ, pos, negsuc, length, drop, eqb}
+use Rattle.std.specs.Prelude.{ℕ, ◌≤◌, min, ◌≡◌, Bool, false, List, [], ◌∷◌, ◌⊎◌, ◌≢◌, Result, Ok, Err, length, drop, eqb}
+use Rattle.std.specs.declared.io.Error.{Error}
+use Rattle.std.specs.declared.io.ErrorKind.TheVariants.{Interrupted as InterruptedKind}
+use Rattle.std.specs.IoError.{error_kind}
 use Rattle.streams.specs.declared.system.Transfer.{Transfer}
 use Rattle.streams.specs.declared.system.Transfer.TheVariants.{Bytes, Interrupted, Failed}
 
--- what an answer to a call on n bytes means: how many it moved, or, below 0, one of two things that an error number tells apart
-abbrev pub Means : ℤ → ℕ → Transfer → Type 0
-Means (pos k) n t = t ≡ Bytes (min k n)
-Means (negsuc k) n t = (t ≡ Interrupted) ⊎ (t ≡ Failed)
+-- what an answer to a call on n bytes means: how many it moved, or, with an error, one of two things that the error's kind tells apart
+abbrev pub Means : Result ℕ Error → ℕ → Transfer → Type 0
+Means (Ok k) n t = t ≡ Bytes (min k n)
+Means (Err e) n t =
+    ((error_kind e ≡ InterruptedKind) × (t ≡ Interrupted)) ⊎ ((error_kind e ≢ InterruptedKind) × (t ≡ Failed))
 
 -- at most n bytes were moved
 abbrev pub AtMost : ℕ → Transfer → Type 0

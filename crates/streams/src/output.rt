@@ -4,32 +4,46 @@ ghost use Rattle.streams.specs.System.{AtMost, IsSent};
 
 use crate::system;
 use crate::system::Transfer;
-use libc::STDOUT_FILENO;
+use std::io;
+use std::io::{ErrorKind, Write};
 
 // One write of the bytes from `from` up to n, of which there is at least one: a write that takes none is one that failed.
-fn write_from(file: i32, out: &[u8], from: usize, n: usize, what: &[u8]) -> Transfer
+fn write_from<W: Write, M: Write>(
+    file: &mut W,
+    out: &[u8],
+    from: usize,
+    n: usize,
+    what: &[u8],
+    messages: &mut M,
+) -> Transfer
     requires { (from < n) × (n ≤ length out.now) }
     ensures { AtMost (n - from) result }
 {
     let rest = &out[from..n];
-    let put = libc::write(file, rest);
-    if put == 0 {
-        os::fail(what);
+    let put = file.write(rest);
+    if let Ok(0) = put {
+        system::fail(what, io::Error::from(ErrorKind::WriteZero), messages);
         return Transfer::Failed;
     }
-    system::meaning(put, rest, what)
+    system::meaning(put, rest, what, messages)
 }
 
 // Writes the first n bytes to a file, and answers whether all were taken. A write that was interrupted is made again; nothing says how often
 // that can be, so the loop counts its writes down from a number that none uses up.
-pub fn write_to(file: i32, out: &[u8], n: usize, what: &[u8]) -> bool
+pub fn write_to<W: Write, M: Write>(
+    file: &mut W,
+    out: &[u8],
+    n: usize,
+    what: &[u8],
+    messages: &mut M,
+) -> bool
     requires { n ≤ length out.now }
     ensures { IsSent (take n out.now) result }
 {
     let mut done = 0;
     let mut writes = u64::MAX;
     while done < n && writes > 0 {
-        let t = write_from(file, out, done, n, what);
+        let t = write_from(file, out, done, n, what, messages);
         match t {
             Transfer::Bytes(k) => done += k,
             Transfer::Interrupted => {}
@@ -41,9 +55,9 @@ pub fn write_to(file: i32, out: &[u8], n: usize, what: &[u8]) -> bool
 }
 
 // The same to standard output.
-pub fn write_out(out: &[u8], n: usize, what: &[u8]) -> bool
+pub fn write_out(rt: &HostRuntime, out: &[u8], n: usize, what: &[u8]) -> bool
     requires { n ≤ length out.now }
     ensures { IsSent (take n out.now) result }
 {
-    write_to(STDOUT_FILENO, out, n, what)
+    write_to(&mut rt.stdout(), out, n, what, &mut rt.stderr())
 }
