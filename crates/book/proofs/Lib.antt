@@ -4,7 +4,6 @@ pub mod PageWords
 pub mod BookWords
 pub mod DayBooked
 pub mod Past
-pub mod Data
 pub mod Passing
 pub mod Noted
 pub mod Written

@@ -2,4 +2,3 @@
 pub mod Files
 pub mod Kept
 pub mod Boxes
-pub mod Data

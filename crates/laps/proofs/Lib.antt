@@ -1,4 +1,3 @@
 -- What the laps of a run come to and print, and what the walk of `run` carries.
 pub mod Laps
 pub mod Printing
-pub mod Data
