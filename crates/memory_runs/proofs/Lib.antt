@@ -1,0 +1,2 @@
+-- What only proofs need: how a run gives a turn of Figure 3.
+pub mod Giving
