@@ -209,15 +209,15 @@ in_day_told n b t (Found (Open k) next ∷ xs) i =
 in_day_told n b t (Found (Update d w) next ∷ xs) i =
     let r = Update d w in
     let j = in_day_after n b t i r tt next in
-    told_more n t b xs r next (record_tells n b t i r tt next) (j.holds []).0 (in_day_told n _ _ xs j)
+    told_more n t b xs r next (record_tells n b t i r tt next) (j.holds []).0 (in_day_told n (box_after b (Found r next)) (tally_by t (sees (item b r)) (result b r).answer) xs j)
 in_day_told n b t (Found (Scan d) next ∷ xs) i =
     let r = Scan d in
     let j = in_day_after n b t i r tt next in
-    told_more n t b xs r next (record_tells n b t i r tt next) (j.holds []).0 (in_day_told n _ _ xs j)
+    told_more n t b xs r next (record_tells n b t i r tt next) (j.holds []).0 (in_day_told n (box_after b (Found r next)) (tally_by t (sees (item b r)) (result b r).answer) xs j)
 in_day_told n b t (Found (Turn d) next ∷ xs) i =
     let r = Turn d in
     let j = in_day_after n b t i r tt next in
-    told_more n t b xs r next (record_tells n b t i r tt next) (j.holds []).0 (in_day_told n _ _ xs j)
+    told_more n t b xs r next (record_tells n b t i r tt next) (j.holds []).0 (in_day_told n (box_after b (Found r next)) (tally_by t (sees (item b r)) (result b r).answer) xs j)
 
 -- ---- a day that is not open yet
 

@@ -28,10 +28,11 @@ past_found s x o shown book r next q count k words w after b = (
 )
 
 -- where none was
-pub past_ended : (s : Notes) (x : Reading) (o : Outcome) (shown : List ℕ) (book : List (List ℕ)) → OneOf (1 ∷ 2 ∷ []) (tag_of X.the_type x) →
+pub past_ended : (s : Notes) (x : Reading) (o : Outcome) (shown : List ℕ) (book : List (List ℕ)) →
+    ((r : Request) (next : ℕ) → x ≡ Found r next → ⊥) →
     (◌≡◌ {A = Notes} (record { day = o.day; at = s.at; end = s.end; ended = true; count = s.count; words = s.words }) (notes_past s x o))
     × (book ≡ book_past s x o shown book)
 unfolding notes_past book_past
-past_ended s (Found r next) o shown book q = absurd (miss (1 ∷ 2 ∷ []) 0 tt q)
+past_ended s (Found r next) o shown book q = absurd (q r next refl)
 past_ended s End o shown book q = (refl, refl)
 past_ended s (Broken k) o shown book q = (refl, refl)
