@@ -1,4 +1,6 @@
 // What the runner prints: the line of each record, by its answer, and those of the end.
+#![tactic(auto)]
+
 ghost use Rattle.std.specs.Prelude.{◌≡◌, List, ℕ, ◌≤◌, length, take, drop};
 ghost use Rattle.snapshot.specs.Values.{words_in, lasts_in};
 ghost use Rattle.daytext.specs.Buffer.{laid_place, laid_text};

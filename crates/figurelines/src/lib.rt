@@ -1,4 +1,6 @@
 // The line of a quarter's figures, laid into a lent buffer. The answer is the place after what was laid.
+#![tactic(auto)]
+
 ghost use Rattle.std.specs.Prelude.{◌+◌, ◌≤◌, ◌++◌, length};
 ghost use Rattle.texts.specs.Laying.{Laid};
 ghost use Rattle.figurelines.specs.FigureText.{fraction_text, figures_text, laid_reckoning};
