@@ -1,5 +1,7 @@
 // An accepted call or turn on a table of packed records. Only what it needs is unpacked: the task, the register that is read, and the
 // process's own record where a double collect ends. Only the record that changes is stored to.
+#![tactic(auto)]
+
 ghost use Rattle.std.specs.Prelude.{◌≡◌, not, [], T};
 ghost use Rattle.std.proofs.Math.Option.{none};
 ghost use Rattle.requests.specs.Requests.{item_of, is_opening, is_call};

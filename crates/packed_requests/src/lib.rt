@@ -1,5 +1,7 @@
 // Any request by numbers on a table of packed records. It is one function, which the library's requests, runs and mending all call: so
 // the compiler keeps the step and its reply together.
+#![tactic(auto)]
+
 ghost use Rattle.std.specs.Prelude.{◌≡◌};
 ghost use Rattle.packed_requests.specs.Requests.{reply_in, table_in, page_in};
 

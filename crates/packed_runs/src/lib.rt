@@ -1,4 +1,6 @@
 // A run of turns on a table of packed records, its answers as numbers; crate `memory_runs` does the same on a table of records.
+#![tactic(auto)]
+
 ghost use Rattle.std.specs.Prelude.{◌+◌, ◌≤◌, ◌<◌, ◌≡◌, length, set};
 ghost use Rattle.snapshot.specs.declared.Request.TheVariants.{Turn};
 ghost use Rattle.packed_table.specs.Tables.{table_after};

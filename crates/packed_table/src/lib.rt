@@ -1,4 +1,6 @@
 // A request on a table of packed records; crate `memory` does the same on a table of records.
+#![tactic(auto)]
+
 ghost use Rattle.std.specs.Prelude.{◌≡◌, not, T};
 ghost use Rattle.snapshot.specs.Days.{open_for};
 ghost use Rattle.snapshot.specs.declared.Request.TheVariants.{Open};

@@ -13,74 +13,45 @@ use Rattle.packed_rows.specs.Rows.{unpacked_all}
 use Rattle.packed_table.specs.Tables.{is_refused}
 use Rattle.packed_rows.proofs.Rows.{records_long, held, failed}
 use Rattle.packed_table.proofs.Requests.{cleared_packed, after_refused, after_accepted, refusal_refused}
-use borrow.Author.Rules.{rules}
-use Rattle.packed_table.proofs.open.Statement.{statement}
-use Rattle.packed_table.proofs.open.Tie as tie
+use Rattle.packed_table.proofs.open.Goals as goal
 
-opening-check-requires : tie.Need-opening-check-requires
-opening-check-requires c κs = search rules
-
-is-refused-requires : tie.Need-is-refused-requires
-is-refused-requires c κs = search rules
-
-refused-requires : tie.Need-refused-requires
-refused-requires c κs = search rules
-
-returns : tie.Need-returns
-returns c =
-    let a = c.before.before.before.before.args in
+pub returns-then-is_refused : goal.returns-then-is_refused
+returns-then-is_refused c =
+    let a = c.args in
     let t = a.t.now in
     let s = state_of a.day (unpacked_all t) in
-    let z = c.before.before.before.opening-check in
+    let z = c.opening_check-c in
     let e = z.ensures
     ∙ ap (λ n. opening_refusal a.day n a.k) (sym (records_long t))
     ∙ opening_refused s a.k in
     let all = stepped s (open_for a.k) in
-    let refused = held c.before.before.is-refused.ensures c.before.if1.true in
+    let refused = held c.is_refused.ensures c.if-is_refused.true in
     let left = stepped_refused s (open_for a.k) (as_option z.result) e refused in
     let answer = sym (ap (λ o. is_refused o.answer) left.0) ∙ refusal_refused a.day (as_option z.result) refused in
-    (c.refused.ensures ∙ left.0, after_refused t (Open a.k) all answer)
+    record {
+      value = c.refused.ensures ∙ left.0;
+      t_after = after_refused t (Open a.k) all answer;
+    }
 
-clear-all-requires : tie.Need-clear-all-requires
-clear-all-requires c κs = search rules
-
-opened-requires : tie.Need-opened-requires
-opened-requires c κs = search rules
-
-same_length : tie.Need-same-length
-same_length c = search rules
-
-returns-2 : tie.Need-returns-2
-returns-2 c =
-    let a = c.before.before.before.before.before.before.before.args in
+pub returns : goal.returns
+returns c =
+    let a = c.args in
     let t = a.t.now in
     let s = state_of a.day (unpacked_all t) in
-    let z = c.before.before.before.before.before.before.opening-check in
+    let z = c.opening_check-c in
     let e = z.ensures
     ∙ ap (λ n. opening_refusal a.day n a.k) (sym (records_long t))
     ∙ opening_refused s a.k in
     let all = stepped s (open_for a.k) in
     let passed = passed_none (as_option z.result) (failed
-    c.before.before.before.before.before.is-refused.ensures c.before.before.before.before.if1.false) in
+    c.is_refused.ensures c.if-is_refused.false) in
     let same = stepped_accepted s (open_for a.k) (sym e ∙ passed) in
     let left = opened_leaves s a.k in
-    let outcome = left.0 ∙ ap outcome_of same in (
-      c.opened.ensures ∙ outcome,
-      c.before.before.clear-all.ensures
+    let outcome = left.0 ∙ ap outcome_of same in
+    record {
+      value = c.opened.ensures ∙ outcome;
+      t_after = c.clear_all.ensures
           ∙ cleared_packed t
           ∙ ap (map pack_record) (left.1 ∙ ap (λ r. r.state.table) same)
-          ∙ after_accepted t (Open a.k) all (sym (ap (λ o. is_refused o.answer) outcome)),
-    )
-
-pub open_spec : {M : Type 1} → statement M
-open_spec =
-    tie.close
-    (tie.spec
-    opening-check-requires
-    is-refused-requires
-    refused-requires
-    returns
-    clear-all-requires
-    opened-requires
-    same_length
-    returns-2)
+          ∙ after_accepted t (Open a.k) all (sym (ap (λ o. is_refused o.answer) outcome));
+    }
