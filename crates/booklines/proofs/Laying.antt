@@ -1,23 +1,21 @@
 -- Laying the lines of a book, one after the other.
-use Prim.Native.Nat.{ℕ, zero, suc, ◌+◌, ◌*◌, ◌≤◌, ◌<◌}
+use Prim.Native.Nat.{ℕ, ◌+◌, ◌*◌, ◌≤◌}
 use native.Mathlib.Omega.{arith}
-use native.Mathlib.Nat.{not-suc-le-zero}
-use mathlib.Core.Path.{◌≡◌, refl, sym, ap, ◌∙◌}
+use mathlib.Core.Path.{◌≡◌, ap, ◌∙◌}
 use mathlib.Core.Bool.{Bool, true, false, cond}
-use mathlib.Core.List.{List, [], ◌∷◌, ◌++◌, append_assoc, append-nil}
+use mathlib.Core.List.{List, [], ◌++◌}
 use lib.Dec.{eqb}
 use lib.ListN.{length, get_or, take}
 use borrow.Author.Tests.{leb-true, le-leb}
 use Rattle.snapshot.proofs.Booleans.{and_both}
 use Rattle.texts.specs.Laying.{Laid}
-use Rattle.texts.proofs.Laying.{laid_nothing, laid_as}
 use Rattle.daytext.specs.declared.Line.{Line}
 use Rattle.daytext.specs.declared.Line.TheVariants.{Update, BookPage, End}
 use Rattle.daytext.specs.Lines.{text_of}
 use Rattle.daytext.specs.Buffer.{longest, laid_place, laid_text}
 use Rattle.daytext.proofs.Room.{laid_with_room}
 use Rattle.daytext.proofs.Lengths.{BookLine, entry, page, book_line_short}
-use Rattle.booklines.specs.PlaceText.{place_line, place_text, places_text, longest_place, most_places, has_room, laid_book}
+use Rattle.booklines.specs.PlaceText.{place_line, places_text, longest_place, most_places, has_room, laid_book}
 
 -- the line of a place is one of a book
 pub place_book_line : (p : List ℕ) → BookLine (place_line p)

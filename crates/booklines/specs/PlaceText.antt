@@ -1,5 +1,5 @@
 -- The text of a book by the numbers in its places, as the code lays it, and where it is laid.
-use Rattle.std.specs.Prelude.{ℕ, ◌+◌, ◌*◌, Bool, cond, ◌&&◌, List, [], ◌∷◌, ◌++◌, eqb, leb, length, get_or, take, drop}
+use Rattle.std.specs.Prelude.{ℕ, ◌+◌, ◌*◌, Bool, cond, ◌&&◌, List, [], ◌++◌, eqb, leb, length, get_or, take, drop}
 use Rattle.texts.specs.Laying.{each_text}
 use Rattle.daytext.specs.declared.Line.{Line}
 use Rattle.daytext.specs.declared.Line.TheVariants.{Update, BookPage, End}

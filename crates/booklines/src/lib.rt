@@ -1,4 +1,6 @@
 // The text of a book: a line for each of its places, then `end` and how many there are, laid into a lent buffer.
+#![tactic(auto)]
+
 ghost use Rattle.std.specs.Prelude.{◌≡◌, ◌+◌, ◌*◌, ◌≤◌, length, take};
 ghost use Rattle.texts.specs.Laying.{Laid};
 ghost use Rattle.daytext.specs.Buffer.{longest};
