@@ -1,5 +1,7 @@
 // Requests: what kind each is, whose it is, and those that a caller makes. A method's functions over its table ask here, so that
 // none of them takes a request apart.
+#![tactic(auto)]
+
 ghost use Rattle.std.specs.Prelude.{◌-◌, ◌<◌, ◌≡◌};
 ghost use Rattle.snapshot.specs.Requests.{number_in};
 ghost use Rattle.requests.specs.Requests.{is_opening, is_call};

@@ -17,7 +17,7 @@ use lib.ListN.{length, get_or, set, replicate, length-append, length-set, length
 use lib.Seq.{get_or-set_same, get_or-set_other, get_or_at}
 use Rattle.snapshot.specs.declared.Answer.{Answer}
 use Rattle.snapshot.specs.declared.Answer.TheVariants.{Refused, Opened, Called, Read, Page, Written}
-use Rattle.snapshot.specs.Lists.{keep, All, Pairs, place, places}
+use Rattle.snapshot.specs.Lists.{All, Pairs, place, places}
 use Rattle.snapshot.specs.Tally.{Job, scan, update, Seen, opening, call, turn, Call, Tally, started, call_of, instant, advanced}
 use Rattle.snapshot.specs.Tally.{opens, gains, puts, puts_if, tallied}
 use Rattle.snapshot.specs.Demand.{Method, Among, PageFits, WrittenFits, IsUpdate, Waiting, Holds}

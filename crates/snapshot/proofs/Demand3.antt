@@ -6,7 +6,7 @@ use native.Mathlib.Omega.{arith}
 use native.Mathlib.Decide.{ℕ_discrete}
 use mathlib.Core.Path.{◌≡◌, refl, sym, ap, ap₂, ◌∙◌, subst}
 use mathlib.Core.Logic.{◌≢◌, by_cases}
-use mathlib.Core.Bool.{Bool, true, false, cond, not, ◌||◌, true≢false, not-not}
+use mathlib.Core.Bool.{Bool, false, cond, not, ◌||◌, true≢false, not-not}
 use mathlib.Core.List.{List, [], ◌∷◌, map}
 use mathlib.Core.Option.{Option, none, some, some-ne-none}
 use lib.ListN.{length, get_or, set, take, replicate, length-set, length-map, length-replicate, get_or-replicate, get_or-map}

@@ -1,4 +1,6 @@
 // What is asked of every method of the register: the day, requests, answers, and the papers' number of each refusal.
+#![tactic(auto)]
+
 ghost use Rattle.std.specs.Prelude.{◌≡◌};
 ghost use Rattle.snapshot.specs.Refusals.{number_of};
 ghost use Rattle.snapshot.specs.Requests.{blank_day, number_in};

@@ -1,5 +1,7 @@
 // What a look at every record of a table finds, for every method that keeps one record a process: a method looks at its own records,
 // and the checks (crate `admission`) go by what it found. No function here sees a record.
+#![tactic(auto)]
+
 ghost use Rattle.std.specs.Prelude.{◌≡◌, ◌+◌, ◌≤◌};
 ghost use Rattle.snapshot.specs.Refusals.{is_past};
 ghost use Rattle.snapshot.specs.Days.{cannot_arise};

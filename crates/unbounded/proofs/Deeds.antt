@@ -9,7 +9,7 @@ use mathlib.Core.Option.{Option, none, some}
 use lib.ListN.{length, take}
 use Rattle.snapshot.specs.Lists.{over}
 use Rattle.snapshot.specs.declared.Value.{Value}
-use Rattle.snapshot.specs.Values.{stored, page_places, values_in}
+use Rattle.snapshot.specs.Values.{stored}
 use Rattle.snapshot.specs.Marks.{Found}
 use Rattle.snapshot.specs.Tally.{Job, scan, update, Call, opens}
 use Rattle.snapshot.specs.Demand.{Result}

@@ -1,4 +1,6 @@
 // Figure 3, the unbounded single-writer method: the types of its registers and processes, and its limits.
+#![tactic(auto)]
+
 ghost use Rattle.std.specs.Prelude.{◌≡◌};
 ghost use Rattle.unbounded.specs.Days.{reads_up_to8};
 

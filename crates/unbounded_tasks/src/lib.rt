@@ -1,4 +1,6 @@
 // What goes by a task of Figure 3 (crate `unbounded`) alone: which one a call sets, and what a turn makes of it and answers.
+#![tactic(auto)]
+
 use snapshot::Value;
 
 pub mod tasks;

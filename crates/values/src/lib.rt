@@ -1,5 +1,7 @@
 // Lists of eight values, of which the first n count: laid over others, which past n stay, and into a page list. "those past n are
 // touched only by an opening" (document 01).
+#![tactic(auto)]
+
 ghost use Rattle.std.specs.Prelude.{◌≤◌, ◌≡◌, length, take};
 ghost use Rattle.snapshot.specs.Lists.{over};
 ghost use Rattle.snapshot.specs.Values.{page_places, listed};

@@ -1,6 +1,5 @@
 -- `table_surveys::end_with` meets its contract.
 use native.Mathlib.Omega.{arith}
-use borrow.Author.Rules.{rules}
 use borrow.Author.Tests.{lt-ltb, le-ltb}
 use Rattle.snapshot.specs.Refusals.{is_past}
 use Rattle.table_surveys.proofs.end_with.Goals as goal

@@ -1,10 +1,6 @@
 -- `values::lay_values` meets its contract: the values that were passed are laid into the list.
 use Prim.Native.Nat.{◌≤◌, ◌-◌}
-use mathlib.Core.Path.{◌≡◌, sym, ◌∙◌, subst}
-use native.Mathlib.Omega.{arith}
-use borrow.Author.Rules.{rules}
-use lib.ListN.{length-set}
-use Rattle.snapshot.proofs.Values.{LaidTo, laid_none, laid_one, laid_all}
+use Rattle.snapshot.proofs.Values.{LaidTo}
 use Rattle.values.proofs.lay_values.Given as goal
 
 abbrev pub invariant-loop-j : goal.invariant-loop-j

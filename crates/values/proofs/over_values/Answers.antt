@@ -1,10 +1,7 @@
-use Prim.Native.Nat.{◌≤◌, ◌-◌}
-use mathlib.Core.Path.{◌≡◌, refl, ap, ◌∙◌}
+use mathlib.Core.Path.{ap, ◌∙◌}
 use lib.ListN.{get_or, set}
 use Rattle.snapshot.proofs.Lists.{over_more}
-use borrow.Author.Rules.{rules}
 use native.Mathlib.Omega.{arith}
-use Rattle.snapshot.specs.Lists.{over}
 use Rattle.snapshot.specs.Values.{zero_value}
 use Rattle.values.proofs.over_values.Goals as goal
 

@@ -1,11 +1,6 @@
 use Prim.Native.Nat.{◌≤◌, ◌-◌}
-use mathlib.Core.Path.{◌≡◌, refl, ap, ◌∙◌}
-use lib.ListN.{get_or, set}
-use Rattle.snapshot.proofs.Lists.{over_more}
-use borrow.Author.Rules.{rules}
-use native.Mathlib.Omega.{arith}
+use mathlib.Core.Path.{◌≡◌}
 use Rattle.snapshot.specs.Lists.{over}
-use Rattle.snapshot.specs.Values.{zero_value}
 use Rattle.values.proofs.over_values.Given as goal
 
 abbrev pub invariant-loop-i : goal.invariant-loop-i

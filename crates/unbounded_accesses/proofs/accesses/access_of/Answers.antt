@@ -3,7 +3,6 @@ use mathlib.Core.Path.{ap}
 use native.Mathlib.Omega.{arith}
 use Prim.Native.Nat.{◌+◌}
 use Rattle.unbounded_accesses.specs.Accesses.{access_of}
-use borrow.Author.Rules.{rules}
 use Rattle.unbounded_accesses.proofs.accesses.access_of.Goals as goal
 
 pub returns : goal.returns

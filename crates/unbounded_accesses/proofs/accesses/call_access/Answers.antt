@@ -1,7 +1,6 @@
 -- `unbounded_accesses::accesses::call_access` meets its contract.
 use mathlib.Core.Path.{refl}
 use native.Mathlib.Omega.{arith}
-use borrow.Author.Rules.{rules}
 use Rattle.unbounded_accesses.specs.Accesses.{call_access}
 use Rattle.unbounded_accesses.proofs.accesses.call_access.Goals as goal
 

@@ -1,14 +1,13 @@
 -- `unbounded_accesses::accesses::next_position` meets its contract: a remainder by 2n is below 2n.
-use mathlib.Core.Path.{◌≡◌, refl, sym, ap, ◌∙◌, subst}
+use mathlib.Core.Path.{◌≡◌, sym, ap, ◌∙◌, subst}
 use mathlib.Core.Bool.{false}
 use lib.Dec.{leb}
 use Prim.Native.Nat.{ℕ, ◌<◌, ◌*◌}
 use native.Mathlib.Omega.{arith}
 use Rattle.unbounded.specs.declared.Task.{Task}
-use Rattle.unbounded.specs.Days.{most_reads, overdue}
+use Rattle.unbounded.specs.Days.{overdue}
 use Rattle.unbounded_accesses.specs.Accesses.{next_position}
 use Rattle.unbounded.proofs.Reading.{position_low}
-use borrow.Author.Rules.{rules}
 use borrow.Author.Tests.{leb-false}
 use Rattle.unbounded_accesses.proofs.accesses.next_position.Goals as goal
 

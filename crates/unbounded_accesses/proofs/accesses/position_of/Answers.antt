@@ -6,7 +6,6 @@ use native.Mathlib.Omega.{arith}
 use mathlib.Core.Path.{◌≡◌, sym, ap, ◌∙◌}
 use Rattle.unbounded.specs.Turns.{position}
 use Rattle.unbounded.specs.Days.{most_reads}
-use borrow.Author.Rules.{rules}
 use Rattle.unbounded_accesses.proofs.accesses.position_of.Goals as goal
 
 -- a remainder by a multiple of s has the same remainder by s
