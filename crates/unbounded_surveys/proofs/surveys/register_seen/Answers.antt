@@ -1,6 +1,5 @@
 -- `unbounded_surveys::surveys::register_seen` meets its contract.
 use Rattle.unbounded_surveys.specs.Surveys.{register_seen}
-use borrow.Author.Rules.{rules}
 use Rattle.unbounded_surveys.proofs.surveys.register_seen.Goals as goal
 
 pub returns : goal.returns

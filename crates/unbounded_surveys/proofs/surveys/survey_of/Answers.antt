@@ -1,6 +1,5 @@
 -- `unbounded_surveys::surveys::survey_of` meets its contract.
 use Rattle.unbounded_surveys.specs.Surveys.{survey_of}
-use borrow.Author.Rules.{rules}
 use Rattle.unbounded_surveys.proofs.surveys.survey_of.Goals as goal
 
 pub returns : goal.returns

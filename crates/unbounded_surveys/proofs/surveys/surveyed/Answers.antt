@@ -2,7 +2,6 @@
 use mathlib.Core.Path.{ap, ◌∙◌}
 use Rattle.unbounded_surveys.specs.Surveys.{register_seen, surveyed_by}
 use Rattle.unbounded_surveys.proofs.Looks.{task_first}
-use borrow.Author.Rules.{rules}
 use Rattle.unbounded_surveys.proofs.surveys.surveyed.Goals as goal
 
 pub returns : goal.returns

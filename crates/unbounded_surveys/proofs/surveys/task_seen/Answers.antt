@@ -1,7 +1,6 @@
 -- `unbounded_surveys::surveys::task_seen` meets its contract: each arm is the clause of its task.
 use mathlib.Core.Path.{sym, ap, ◌∙◌}
 use Rattle.unbounded_surveys.specs.Surveys.{task_seen}
-use borrow.Author.Rules.{rules}
 use Rattle.unbounded_surveys.proofs.surveys.task_seen.Goals as goal
 
 pub returns-in-Idle : goal.returns-in-Idle
