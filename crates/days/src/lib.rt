@@ -1,5 +1,7 @@
 // A file's records with their outcomes: what was read is asked of a table of eight process records, of which as many are lent as the
 // day has processes. Any program over day files calls these between its own input and output.
+#![tactic(auto)]
+
 ghost use Rattle.std.specs.Prelude.{◌≡◌};
 ghost use Rattle.days.specs.Asking.{is_none, request_of, lent_to, unasked_of, asked_outcome, asked_table, asked_page};
 

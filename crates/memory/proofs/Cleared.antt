@@ -3,7 +3,7 @@ use Prim.Native.Nat.{ℕ, ◌+◌, ◌<◌}
 use native.Mathlib.Omega.{arith}
 use mathlib.Core.Path.{◌≡◌, sym, ap, ◌∙◌}
 use mathlib.Core.List.{List, map, ◌++◌, append-nil}
-use lib.ListN.{length, take, set, length-map}
+use lib.ListN.{length, set, length-map}
 use lib.Seq.{take_all, drop-length}
 use Rattle.snapshot.specs.Lists.{over}
 use Rattle.snapshot.proofs.Lists.{over_more, get_d_map_below}

@@ -5,7 +5,6 @@ use Rattle.unbounded.specs.declared.Register.{Register}
 use Rattle.unbounded.specs.declared.Process.{Process}
 use Rattle.unbounded.specs.declared.Task.{Task}
 use Rattle.unbounded.specs.Processes.{no_process, turns_of}
-use Rattle.unbounded_accesses.specs.declared.Access.{Access}
 use Rattle.unbounded_tasks.specs.declared.Find.{Find}
 use Rattle.unbounded_accesses.specs.Accesses.{Admits, access_of, register_in}
 use Rattle.unbounded_finds.specs.Finds.{find_of}

@@ -1,3 +1,5 @@
 // The table of process records, lent to every call and turn, for Figure 3's method (crate `unbounded`).
+#![tactic(auto)]
+
 mod elements;
 pub mod table;

@@ -1,5 +1,7 @@
 // A run of turns on a lent table of process records. Which turns there are and where their answers and pages go, crate `runs`
 // says for every method; crate `memory` gives the turns.
+#![tactic(auto)]
+
 ghost use Rattle.std.specs.Prelude.{◌+◌, ◌≤◌, ◌<◌, ◌≡◌, length, set};
 ghost use Rattle.memory.specs.Tables.{outcome_of};
 ghost use Rattle.runs.specs.Plans.{laid_from, run_outcome_of};

@@ -1,5 +1,7 @@
 // One record of the lent table, changed in place: only the parts that a call or a turn sets are stored, and no record is copied
 // whole. What is stored is for functions on plain values to say (crate `unbounded_turns`).
+#![tactic(auto)]
+
 ghost use Rattle.std.specs.Prelude.{◌≡◌, ◌≤◌, ◌<◌};
 ghost use Rattle.unbounded.specs.Processes.{turns_of};
 ghost use Rattle.unbounded_accesses.specs.Accesses.{Sound};

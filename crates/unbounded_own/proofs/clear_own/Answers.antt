@@ -1,7 +1,6 @@
 -- Place i of both collects is cleared by a turn of the loop, and all of them after the last.
-use Prim.Native.Nat.{ℕ, ◌≤◌}
 use native.Mathlib.Omega.{arith}
-use mathlib.Core.Path.{◌≡◌, ap, ◌∙◌}
+use mathlib.Core.Path.{ap, ◌∙◌}
 use lib.ListN.{get_or, set}
 use Rattle.unbounded.specs.Registers.{no_register, laid}
 use Rattle.unbounded_turns.proofs.Parts.{with_first, with_second}

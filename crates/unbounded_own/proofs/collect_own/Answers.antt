@@ -1,6 +1,6 @@
 -- The register is laid into its place of the first collect, or of the second.
 use Prim.Native.Nat.{ℕ}
-use mathlib.Core.Path.{◌≡◌, sym, ap, ◌∙◌}
+use mathlib.Core.Path.{sym, ap, ◌∙◌}
 use lib.ListN.{get_or, set}
 use Rattle.unbounded.specs.Registers.{no_register, laid}
 use Rattle.unbounded_turns.proofs.Parts.{with_first, with_second}

@@ -1,6 +1,6 @@
 -- The read is stored part by part: the register in its collect, the end of the first, what is kept, the marks, then the task.
 use mathlib.Core.Path.{ap, ◌∙◌}
-use Rattle.unbounded_turns.specs.Steps.{with_task, kept_by, marked_by, collected_by}
+use Rattle.unbounded_turns.specs.Steps.{with_task, kept_by, marked_by}
 use Rattle.unbounded_turns.proofs.Parts.{with_end}
 use Rattle.unbounded_turns.proofs.Steps.{read_in_parts}
 use Rattle.unbounded.specs.Turns.{end_after}

@@ -1,5 +1,5 @@
 -- A turn that ends its task stores the register, then begins none; any other is a read.
-use mathlib.Core.Path.{sym, ap, ◌∙◌}
+use mathlib.Core.Path.{sym, ◌∙◌}
 use Rattle.unbounded_turns.specs.Steps.{begun_by}
 use Rattle.unbounded_turns.proofs.Parts.{with_register}
 use Rattle.unbounded_turns.proofs.Steps.{state_ended, state_went_on}

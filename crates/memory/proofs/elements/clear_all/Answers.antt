@@ -1,7 +1,6 @@
-use Prim.Native.Nat.{ℕ, ◌+◌, ◌≤◌}
 use native.Mathlib.Omega.{arith}
-use mathlib.Core.Path.{◌≡◌, ap, ◌∙◌}
-use lib.ListN.{length, set, length-set}
+use mathlib.Core.Path.{ap, ◌∙◌}
+use lib.ListN.{set, length-set}
 use Rattle.unbounded.specs.Processes.{zero_process}
 use Rattle.memory.proofs.Cleared.{cleared_more, cleared_all}
 use Rattle.memory.proofs.elements.clear_all.Goals as goal

@@ -1,5 +1,5 @@
 -- An accepted call begins its task in the record of its process.
-use mathlib.Core.Path.{◌≡◌, sym, ap, subst, ◌∙◌}
+use mathlib.Core.Path.{sym, subst, ◌∙◌}
 use mathlib.Core.List.{[]}
 use lib.ListN.{length, get_or, set}
 use Prim.Native.Nat.{◌<◌}

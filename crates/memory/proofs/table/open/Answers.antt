@@ -4,7 +4,6 @@ use mathlib.Core.Bool.{not}
 use lib.Dec.{T}
 use Rattle.snapshot.specs.Days.{open_for}
 use Rattle.admission.specs.Checks.{as_option}
-use Rattle.admission.specs.Outcomes.{refused_outcome}
 use Rattle.admission.proofs.Checked.{passed_none}
 use Rattle.memory.specs.Tables.{state_of, outcome_of}
 use Rattle.memory.proofs.Accepted.{opening_refused, opened_leaves, stepped_refused, stepped_accepted}

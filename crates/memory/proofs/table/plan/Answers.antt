@@ -4,12 +4,11 @@ use mathlib.Core.List.{foldl}
 use mathlib.Core.Bool.{not}
 use lib.Dec.{T}
 use lib.ListN.{length, get_or}
-use Rattle.snapshot.specs.Requests.{number_in}
 use Rattle.unbounded.specs.Processes.{no_process, is_idle}
-use Rattle.unbounded_surveys.specs.Surveys.{survey_of, surveyed_by}
-use Rattle.admission.specs.Checks.{as_option, is_refusal, first_refusal, last_refusal}
+use Rattle.unbounded_surveys.specs.Surveys.{surveyed_by}
+use Rattle.admission.specs.Checks.{as_option, first_refusal, last_refusal}
 use Rattle.admission.proofs.Checked.{passed_none}
-use Rattle.memory.proofs.Accepted.{plan_refuses, plan_number, plan_inside, plan_last}
+use Rattle.memory.proofs.Accepted.{plan_refuses, plan_last}
 use Rattle.memory.proofs.table.plan.Goals as goal
 
 pub returns-then-is_refused : goal.returns-then-is_refused

@@ -1,13 +1,10 @@
 -- The register that the task reads lies within the table, and its record has room for one turn more.
 use Prim.Native.Nat.{◌≤◌, ◌<◌}
 use native.Mathlib.Nat.{lt_of_lt_of_le, le_trans}
-use native.Mathlib.Omega.{arith}
-use mathlib.Core.Path.{◌≡◌, sym, subst, ap, ◌∙◌}
-use lib.ListN.{length, get_or, set}
+use mathlib.Core.Path.{sym, subst, ap}
+use lib.ListN.{length, get_or}
 use Rattle.unbounded.specs.Processes.{no_process, turns_of}
-use Rattle.unbounded_finds.specs.Finds.{find_of}
 use Rattle.unbounded_finds.proofs.Passed.{find_passed}
-use Rattle.unbounded_accesses.specs.Accesses.{access_of}
 use Rattle.unbounded_turns.proofs.Steps.{access_count}
 use Rattle.memory.proofs.table.read_turn.Goals as goal
 

@@ -1,6 +1,5 @@
 -- An opening goes to `open`. Any other request is planned, and is refused, called or turned.
 use mathlib.Core.Path.{refl, sym, ap, subst, ◌∙◌}
-use mathlib.Core.List.{[]}
 use mathlib.Core.Bool.{not}
 use lib.Dec.{T}
 use Rattle.snapshot.specs.Days.{open_for}

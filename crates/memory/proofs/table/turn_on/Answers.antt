@@ -1,9 +1,8 @@
 -- An accepted turn of a ready update writes; any other reads one register.
 use Prim.Native.Nat.{ℕ, ◌-◌, ◌<◌}
-use mathlib.Core.Path.{◌≡◌, sym, ap, subst, ◌∙◌}
+use mathlib.Core.Path.{sym, ap, subst, ◌∙◌}
 use lib.ListN.{length, get_or, set}
 use Rattle.snapshot.specs.Requests.{number_in}
-use Rattle.unbounded.specs.declared.Task.{Task}
 use Rattle.unbounded.specs.Registers.{zero_register}
 use Rattle.unbounded.specs.Processes.{no_process}
 use Rattle.unbounded_accesses.specs.Accesses.{access_of, is_ready, RoomFor}

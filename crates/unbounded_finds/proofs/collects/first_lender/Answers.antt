@@ -1,10 +1,6 @@
 -- `unbounded_finds::collects::first_lender` meets its contract: no process that was passed lends.
-use Prim.Native.Nat.{ℕ, ◌≤◌, ◌<◌, ◌-◌}
 use mathlib.Core.Path.{◌≡◌, sym, ◌∙◌}
-use mathlib.Core.Bool.{false}
-use mathlib.Core.Logic.{⊎_elim}
-use borrow.Author.Rules.{rules}
-use borrow.Author.Count.{below_more, below_none}
+use borrow.Author.Count.{below_more}
 use native.Mathlib.Omega.{arith}
 use Rattle.snapshot.proofs.Lists.{first_below_is}
 use Rattle.snapshot.specs.Marks.{is_moved, lends}
@@ -33,8 +29,9 @@ loop-j-preserved c =
       omega arith,
       below_more _ l.j l.invariant.1
           (elim c.if-a-j.branch [
-            then-a-j+else-ms-j w ↦ moved_lends d a.ms l.j (other_seqs ascending a.a a.b l.j w.if-a-j.true) ∙ w.if-ms-j.false
-          | else-a-j w ↦ still_lends_not d a.ms l.j (same_seqs ascending a.a a.b l.j w.if-a-j.false) ]),
+            | then-a-j+else-ms-j w ↦ moved_lends d a.ms l.j (other_seqs ascending a.a a.b l.j w.if-a-j.true) ∙ w.if-ms-j.false
+            | else-a-j w ↦ still_lends_not d a.ms l.j (same_seqs ascending a.a a.b l.j w.if-a-j.false)
+          ]),
     )
 
 pub returns : goal.returns

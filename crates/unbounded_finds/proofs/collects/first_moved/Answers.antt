@@ -1,9 +1,6 @@
 -- `unbounded_finds::collects::first_moved` meets its contract: no process that was passed differs.
-use Prim.Native.Nat.{ℕ, ◌≤◌, ◌<◌, ◌-◌}
 use mathlib.Core.Path.{◌≡◌, sym}
-use mathlib.Core.Bool.{false}
-use borrow.Author.Rules.{rules}
-use borrow.Author.Count.{below_more, below_none}
+use borrow.Author.Count.{below_more}
 use native.Mathlib.Omega.{arith}
 use Rattle.snapshot.proofs.Lists.{first_below_is}
 use Rattle.unbounded.specs.Registers.{ascending, differs}

@@ -1,13 +1,8 @@
 -- `unbounded_finds::collects::first_moved` meets its contract: no process that was passed differs.
 use Prim.Native.Nat.{ℕ, ◌≤◌, ◌<◌, ◌-◌}
-use mathlib.Core.Path.{◌≡◌, sym}
+use mathlib.Core.Path.{◌≡◌}
 use mathlib.Core.Bool.{false}
-use borrow.Author.Rules.{rules}
-use borrow.Author.Count.{below_more, below_none}
-use native.Mathlib.Omega.{arith}
-use Rattle.snapshot.proofs.Lists.{first_below_is}
 use Rattle.unbounded.specs.Registers.{ascending, differs}
-use Rattle.unbounded.proofs.Moved.{same_seqs, other_seqs}
 use Rattle.unbounded_finds.proofs.collects.first_moved.Given as goal
 
 abbrev pub invariant-loop-j : goal.invariant-loop-j

@@ -1,6 +1,5 @@
 -- `unbounded_finds::collects::lay` meets its contract.
 use Rattle.unbounded.specs.Registers.{laid}
-use borrow.Author.Rules.{rules}
 use Rattle.unbounded_finds.proofs.collects.lay.Goals as goal
 
 pub returns : goal.returns

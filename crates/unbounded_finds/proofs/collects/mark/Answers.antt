@@ -1,10 +1,7 @@
 -- `unbounded_finds::collects::mark` meets its contract: the processes that were passed are marked as the search marks them.
-use Prim.Native.Nat.{◌≤◌, ◌-◌}
-use mathlib.Core.Path.{◌≡◌, refl, sym, ap, ◌∙◌}
+use mathlib.Core.Path.{sym, ap, ◌∙◌}
 use mathlib.Core.Bool.{Bool, true, cond}
 use mathlib.Core.List.{List}
-use mathlib.Core.Logic.{⊎_elim}
-use borrow.Author.Rules.{rules}
 use native.Mathlib.Omega.{arith}
 use lib.ListN.{set}
 use Rattle.snapshot.specs.Marks.{with_moved, mark_from}
@@ -25,8 +22,9 @@ loop-j-preserved c =
     let marked : Bool → List Bool = λ t. cond t (with_moved y l.j) y in (
       omega arith,
       elim c.if-a-j.branch [
-        then-a-j w ↦ w.x-is ∙ ap (λ x. set x l.j true) l.invariant.1
-          ∙ sym (more ∙ ap marked (other_seqs ascending a.a a.b l.j w.if-a-j.true))
-      | else-a-j w ↦ w.x-is ∙ l.invariant.1
-          ∙ sym (more ∙ ap marked (same_seqs ascending a.a a.b l.j w.if-a-j.false)) ],
+        | then-a-j w ↦ w.x-is ∙ ap (λ x. set x l.j true) l.invariant.1
+            ∙ sym (more ∙ ap marked (other_seqs ascending a.a a.b l.j w.if-a-j.true))
+        | else-a-j w ↦ w.x-is ∙ l.invariant.1
+            ∙ sym (more ∙ ap marked (same_seqs ascending a.a a.b l.j w.if-a-j.false))
+      ],
     )

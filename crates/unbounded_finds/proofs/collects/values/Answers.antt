@@ -1,7 +1,5 @@
 -- `unbounded_finds::collects::values` meets its contract: the values that were passed are laid over zeros.
-use Prim.Native.Nat.{◌≤◌, ◌-◌}
-use mathlib.Core.Path.{◌≡◌, refl, ap, ◌∙◌}
-use borrow.Author.Rules.{rules}
+use mathlib.Core.Path.{ap, ◌∙◌}
 use native.Mathlib.Omega.{arith}
 use lib.ListN.{get_or, set, replicate}
 use Rattle.snapshot.specs.Lists.{over}

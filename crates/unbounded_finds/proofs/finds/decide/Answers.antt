@@ -7,7 +7,6 @@ use Rattle.snapshot.specs.Marks.{lends}
 use Rattle.snapshot.proofs.DoubleCollect.{verdict_clean, verdict_lent, verdict_again}
 use Rattle.unbounded.specs.Registers.{ascending, differs}
 use Rattle.unbounded_finds.specs.Finds.{decision_find}
-use borrow.Author.Rules.{rules}
 use Rattle.unbounded_finds.proofs.finds.decide.Goals as goal
 
 pub returns-then-first_moved-n : goal.returns-then-first_moved-n

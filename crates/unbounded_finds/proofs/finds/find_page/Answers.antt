@@ -18,7 +18,6 @@ use Rattle.unbounded_tasks.specs.declared.Find.{Find}
 use Rattle.unbounded_accesses.specs.Accesses.{Sound}
 use Rattle.unbounded_finds.specs.Finds.{nothing_found, decision_find, find_of}
 use Rattle.unbounded_finds.proofs.Passed.{find_passed}
-use borrow.Author.Rules.{rules}
 use Rattle.unbounded_finds.proofs.finds.find_page.Goals as goal
 
 module _ (a : Access) (r : Register) (p : Process) where

@@ -1,6 +1,5 @@
 -- `unbounded_turns::records::end_of` meets its contract.
 use mathlib.Core.Path.{sym}
-use native.Mathlib.Omega.{arith}
 use Rattle.unbounded.proofs.Reading.{end_reads, end_waits}
 use Rattle.unbounded_turns.proofs.records.end_of.Goals as goal
 

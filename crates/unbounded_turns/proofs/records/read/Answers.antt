@@ -2,7 +2,6 @@
 -- marks.
 use Prim.Native.Nat.{ℕ, ◌+◌, ◌-◌, ◌<◌, ◌≤◌}
 use mathlib.Core.Path.{◌≡◌, sym, ap, ◌∙◌}
-use mathlib.Core.Logic.{⊎_elim}
 use mathlib.Core.Bool.{Bool, cond}
 use mathlib.Core.List.{List}
 use native.Mathlib.Omega.{arith}
@@ -20,7 +19,6 @@ use Rattle.unbounded_tasks.specs.declared.Find.{Find}
 use Rattle.unbounded_turns.specs.Steps.{read_by}
 use Rattle.unbounded_tasks.specs.Tasks.{keeps_by}
 use Rattle.unbounded_turns.proofs.Parts.{with_collected}
-use borrow.Author.Rules.{rules}
 use Rattle.unbounded_turns.proofs.records.read.Goals as goal
 use Rattle.unbounded_turns.proofs.records.read.Goals.{then-pos-n, else-pos-n, then-keeps, else-keeps}
 
@@ -75,17 +73,19 @@ returns-then-f-gt0 c =
     let end = c.end_of in
     let at_stored : c.if-pos-n.q ≡ stored s.a s.r s.p s.p.view =
     elim c.if-pos-n.branch [
-      then-pos-n w ↦ w.q-is ∙ in-first s.a s.r s.p w.lay.result end.result w.if-pos-n.true w.lay.ensures end.ensures
-    | else-pos-n w ↦ w.q-is
-        ∙ in-second s.a s.r s.p w.lay-else-pos-n.result end.result w.if-pos-n.false w.lay-else-pos-n.ensures end.ensures ] in
+      | then-pos-n w ↦ w.q-is ∙ in-first s.a s.r s.p w.lay.result end.result w.if-pos-n.true w.lay.ensures end.ensures
+      | else-pos-n w ↦ w.q-is
+          ∙ in-second s.a s.r s.p w.lay-else-pos-n.result end.result w.if-pos-n.false w.lay-else-pos-n.ensures end.ensures
+    ] in
     let by : Bool → Process = λ b. stored s.a s.r s.p (view_after s.a s.p s.f b) in
     let at_kept : c.if-keeps.q ≡ by (keeps_by s.f s.k) =
     elim c.if-keeps.branch [
-      then-keeps w ↦ w.q-is
-        ∙ (λ i. with_collected (at_stored i).first (at_stored i).second (at_stored i).first_end
+      | then-keeps w ↦ w.q-is
+          ∙ (λ i. with_collected (at_stored i).first (at_stored i).second (at_stored i).first_end
           (w.over_values-view.ensures i) (at_stored i).moved (at_stored i))
-        ∙ ap by (sym w.if-keeps.true ∙ c.keeps.ensures)
-    | else-keeps w ↦ w.q-is ∙ at_stored ∙ ap by (sym w.if-keeps.false ∙ c.keeps.ensures) ] in
+          ∙ ap by (sym w.if-keeps.true ∙ c.keeps.ensures)
+      | else-keeps w ↦ w.q-is ∙ at_stored ∙ ap by (sym w.if-keeps.false ∙ c.keeps.ensures)
+    ] in
     let q = c.if-keeps.q in
     ap (λ ms. with_collected q.first q.second q.first_end q.view ms q) c.mark-moved.ensures
     ∙ ap (passes s.f.passed) at_kept
@@ -97,16 +97,18 @@ returns-else-f-gt0 c =
     let end = c.end_of in
     let at_stored : c.if-pos-n.q ≡ stored s.a s.r s.p s.p.view =
     elim c.if-pos-n.branch [
-      then-pos-n w ↦ w.q-is ∙ in-first s.a s.r s.p w.lay.result end.result w.if-pos-n.true w.lay.ensures end.ensures
-    | else-pos-n w ↦ w.q-is
-        ∙ in-second s.a s.r s.p w.lay-else-pos-n.result end.result w.if-pos-n.false w.lay-else-pos-n.ensures end.ensures ] in
+      | then-pos-n w ↦ w.q-is ∙ in-first s.a s.r s.p w.lay.result end.result w.if-pos-n.true w.lay.ensures end.ensures
+      | else-pos-n w ↦ w.q-is
+          ∙ in-second s.a s.r s.p w.lay-else-pos-n.result end.result w.if-pos-n.false w.lay-else-pos-n.ensures end.ensures
+    ] in
     let by : Bool → Process = λ b. stored s.a s.r s.p (view_after s.a s.p s.f b) in
     let at_kept : c.if-keeps.q ≡ by (keeps_by s.f s.k) =
     elim c.if-keeps.branch [
-      then-keeps w ↦ w.q-is
-        ∙ (λ i. with_collected (at_stored i).first (at_stored i).second (at_stored i).first_end
+      | then-keeps w ↦ w.q-is
+          ∙ (λ i. with_collected (at_stored i).first (at_stored i).second (at_stored i).first_end
           (w.over_values-view.ensures i) (at_stored i).moved (at_stored i))
-        ∙ ap by (sym w.if-keeps.true ∙ c.keeps.ensures)
-    | else-keeps w ↦ w.q-is ∙ at_stored ∙ ap by (sym w.if-keeps.false ∙ c.keeps.ensures) ] in
+          ∙ ap by (sym w.if-keeps.true ∙ c.keeps.ensures)
+      | else-keeps w ↦ w.q-is ∙ at_stored ∙ ap by (sym w.if-keeps.false ∙ c.keeps.ensures)
+    ] in
     let none : 0 ≡ s.f.passed = omega arith in
     at_kept ∙ ap (λ k. passes k (stored s.a s.r s.p (view_after s.a s.p s.f (keeps_by s.f s.k)))) none
