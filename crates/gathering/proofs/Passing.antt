@@ -1,6 +1,6 @@
 -- A lap of the code: what is still to be gathered from where it stands stays what the whole file gives (`gathers`), and so does how the
 -- file ends (`ends`); and each lap leaves fewer (`less`).
-use Prim.Native.Nat.{ℕ, suc, ◌+◌, ◌-◌, ◌≤◌, ◌<◌}
+use Prim.Native.Nat.{ℕ, suc, ◌-◌, ◌≤◌, ◌<◌}
 use native.Mathlib.Omega.{arith}
 use mathlib.Core.Path.{◌≡◌, refl, sym, ap, ap₂, ◌∙◌, subst}
 use mathlib.Core.Bool.{true, false, cond}
@@ -18,7 +18,7 @@ use Rattle.figures.specs.Figures.{PageAnswer}
 use Rattle.packed_days.specs.Boxes.{box_in, IsAfter}
 use Rattle.gathering.specs.declared.Progress.{Progress}
 use Rattle.gathering.specs.Answers.{page_answers, answers_in, ended_by}
-use Rattle.gathering.specs.Gathered.{Gathered, sums_with_all}
+use Rattle.gathering.specs.Gathered.{Gathered, with_one, sums_with_all}
 use Rattle.gathering.specs.Laps.{gathered, progress_past, IsLap}
 
 -- ---- what is left
@@ -40,7 +40,7 @@ laps_left s length = cond s.ended 0 (suc (length - s.at))
 
 pub with_both : (g : Gathered) (xs ys : List PageAnswer) → sums_with_all g (xs ++ ys) ≡ sums_with_all (sums_with_all g xs) ys
 with_both g [] ys = refl
-with_both g (a ∷ xs) ys = with_both _ xs ys
+with_both g (a ∷ xs) ys = with_both (with_one g a) xs ys
 
 -- ---- a lap
 

@@ -1,4 +1,6 @@
 // The page answers of a day file, gathered in a lent list: each as three numbers, its day's desk count, its lender and its turns.
+#![tactic(auto)]
+
 ghost use Rattle.std.specs.Prelude.{◌≡◌, ◌≤◌, length};
 ghost use Rattle.snapshot.specs.Requests.{blank_day};
 ghost use Rattle.days.specs.Happenings.{file_on, day_of};

@@ -7,7 +7,7 @@ use mathlib.Core.List.{List, [], ◌∷◌, ◌++◌, map}
 use mathlib.Core.Option.{Option, none, some, none-ne-some}
 use lib.ListN.{length}
 use lib.Seq.{drop_at}
-use Rattle.snapshot.specs.Lists.{keep, All}
+use Rattle.snapshot.specs.Lists.{All}
 use Rattle.snapshot.specs.Refusals.{number_of}
 use Rattle.snapshot.specs.Demand.{refusal_of}
 use Rattle.snapshot.specs.Replies.{reply_of}
@@ -26,7 +26,7 @@ use Rattle.dayfile.proofs.Files.{readings_unfold}
 use Rattle.dayfile.proofs.Pieces.{Cuts, over, found, broken, pieces_cut}
 use Rattle.days.specs.Happenings.{Box, blank_box, box_after, outcome_in, Happening, happening_in, happenings, file_on, day_of}
 use Rattle.days.proofs.Boxes.{unread_stays, answered_stays}
-use Rattle.mending.specs.Mending.{refusal_by, Part, judged, parts_of, bytes_kept, kept_of, Drop, drop_by, drops_of, mended, dropped}
+use Rattle.mending.specs.Mending.{refusal_by, judged, parts_of, bytes_kept, kept_of, Drop, drop_by, drops_of, mended, dropped}
 use Rattle.mending.specs.Claims.{Partition, number_by, numbers_in, read_through, run_of, refusal_in, accepted, box_past, Mends}
 use Rattle.mending.specs.Claims as Claims
 

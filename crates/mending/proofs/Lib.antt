@@ -1,4 +1,3 @@
--- What is claimed of a mended file, files that are mended by computing, and what a reply tells.
+-- What is claimed of a mended file, and files that are mended by computing.
 pub mod Claims
 pub mod Cases
-pub mod Replies

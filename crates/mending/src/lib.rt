@@ -1,4 +1,6 @@
 // Whether what stands in a damaged day file is kept or dropped: it is read, and run on a table of packed records.
+#![tactic(auto)]
+
 ghost use Rattle.std.specs.Prelude.{◌≡◌};
 ghost use Rattle.packed_days.specs.Boxes.{box_in};
 ghost use Rattle.mending.specs.Judging.{number_with, HasNext, IsJudged};

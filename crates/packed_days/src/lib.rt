@@ -1,5 +1,7 @@
 // A file's records asked of a table of eight packed records, of which as many are lent as the day has processes. Functions over words
 // need no proof along their compiled code, as those of `days` do, whose records are structs.
+#![tactic(auto)]
+
 ghost use Rattle.std.specs.Prelude.{◌≡◌, length};
 ghost use Rattle.days.specs.Happenings.{outcome_in};
 ghost use Rattle.packed_days.specs.Boxes.{box_in, IsAfter, IsReplied};

@@ -1,0 +1,24 @@
+-- `gathering::past` meets its contract.
+use mathlib.Core.Path.{sym, ap, ◌∙◌}
+use Rattle.gathering.specs.Laps.{progress_past}
+use mathlib.Core.Bool.{true}
+use Rattle.gathering.proofs.past.Goals as goal
+
+pub returns-in-Found : goal.returns-in-Found
+unfolding progress_past
+returns-in-Found c =
+    let a = c.args in
+    sym (ap (λ x. progress_past a.s x a.day a.count) c.in-Found.is)
+
+pub returns-in-End : goal.returns-in-End
+unfolding progress_past
+returns-in-End c =
+    let a = c.args in
+    sym (ap (λ x. progress_past a.s x a.day a.count) c.in-End.is)
+
+pub returns-in-Refused : goal.returns-in-Refused
+unfolding progress_past
+returns-in-Refused c =
+    let a = c.args in
+    ap (λ k. record { day = a.day; at = a.s.at; ended = true; refusal = k; count = a.count }) c.number.ensures
+    ∙ sym (ap (λ x. progress_past a.s x a.day a.count) c.in-Refused.is)
