@@ -78,10 +78,22 @@ fn run(rt: &HostRuntime, bytes: &mut [u8], places: &mut [[u32; 11]], out: &mut [
     output::write_out(rt, out, n, b"day_book: cannot write standard output")
 }
 
+// The run on buffers of these sizes.
+fn start(
+    rt: &HostRuntime,
+    bytes: &mut [u8; INPUT],
+    places: &mut [[u32; 11]; PLACES],
+    out: &mut [u8; OUTPUT],
+) -> bool
+    ensures { IsBookRun 21845 bytes.new out.old out.new result }
+{
+    run(rt, bytes, places, out)
+}
+
 // The run, with room for the longest day file and the book of any.
 fn main(rt: HostRuntime) {
     let mut bytes = [0u8; INPUT];
     let mut places = [[0u32; 11]; PLACES];
     let mut out = [0u8; OUTPUT];
-    run(&rt, &mut bytes, &mut places, &mut out);
+    start(&rt, &mut bytes, &mut places, &mut out);
 }

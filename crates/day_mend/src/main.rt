@@ -217,11 +217,24 @@ fn run(
     mend_input(rt, input, bytes, room, rows, lines)
 }
 
+// The run on buffers of these sizes.
+fn start(
+    rt: &HostRuntime,
+    bytes: &mut [u8; INPUT],
+    room: &mut [u8; ROOM],
+    rows: &mut [[u64; 3]; PIECES],
+    lines: &mut [u8; LINES],
+) -> Writing
+    ensures { IsMendRun bytes.new result.went result.told }
+{
+    run(rt, bytes, room, rows, lines)
+}
+
 // The run, with room for the longest day file.
 fn main(rt: HostRuntime) {
     let mut bytes = [0u8; INPUT];
     let mut room = [0u8; ROOM];
     let mut rows = [[0u64; 3]; PIECES];
     let mut lines = [0u8; LINES];
-    run(&rt, &mut bytes, &mut room, &mut rows, &mut lines);
+    start(&rt, &mut bytes, &mut room, &mut rows, &mut lines);
 }
