@@ -2,14 +2,11 @@
 use Prim.Native.Nat.{ℕ, ◌+◌}
 use mathlib.Core.Path.{◌≡◌, refl, sym, ap, ap₂, ◌∙◌}
 use mathlib.Core.Bool.{true, false}
-use mathlib.Core.List.{List, [], ◌∷◌}
-use types.Run.{OneOf, miss}
-use denote.Enum.Declared.{tag_of}
+use mathlib.Core.List.{List}
 use Rattle.snapshot.specs.declared.Request.{Request}
 use Rattle.snapshot.specs.declared.Outcome.{Outcome}
 use Rattle.dayfile.specs.declared.Reading.{Reading}
 use Rattle.dayfile.specs.declared.Reading.TheVariants.{Found, End, Refused as Broken}
-use Rattle.dayfile.specs.contracts.Reading as X
 use Rattle.places.specs.Answers.{words_after, count_after, book_after}
 use Rattle.book.specs.declared.notes.Notes.{Notes}
 use Rattle.book.specs.Passes.{notes_past, book_past}

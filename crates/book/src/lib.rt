@@ -1,4 +1,6 @@
 // The book of a day file: its finished operations in one order, a place for each.
+#![tactic(auto)]
+
 ghost use Rattle.std.specs.Prelude.{◌≡◌, leb, length};
 ghost use Rattle.book.specs.DayBooks.{processes_in, book_in};
 ghost use Rattle.book.specs.Places.{booking_of, book_with};

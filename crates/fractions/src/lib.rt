@@ -1,4 +1,6 @@
 // Fractions in lowest terms.
+#![tactic(auto)]
+
 ghost use Rattle.std.specs.Prelude.{◌≡◌};
 ghost use Rattle.fractions.specs.Fractions.{greatest_divisor, lowest_terms};
 

@@ -1,5 +1,7 @@
 // A process record as 369 words of 32 bits, which is how it crosses to other languages: any words are a record, and none of them is
 // padding. Each part is unpacked from its place; crate `packed_stores` lays it over.
+#![tactic(auto)]
+
 ghost use Rattle.std.specs.Prelude.{◌≡◌, map, ◌+◌, ◌≤◌, drop};
 ghost use Rattle.packed.specs.Packing.{word_at, words, unpack_value, unpack_view, unpack_register, task_of_kind, unpack_task};
 ghost use Rattle.packed.specs.Packing.{unpack_collect, unpack_mark, unpack_record};

@@ -1,7 +1,6 @@
 -- A book that has room is written by the pass.
 use mathlib.Core.Path.{sym, subst, ◌∙◌}
 use lib.ListN.{replicate}
-use borrow.Author.Tests.{not-false}
 use Rattle.book.specs.Passes.{Passed}
 use Rattle.book.proofs.Written.{writes}
 use Rattle.book.proofs.write.Goals as goal

@@ -1,8 +1,6 @@
 -- `fractions::gcd` meets its contract: each division keeps the greatest common divisor.
-use mathlib.Core.Path.{◌≡◌, refl, sym, ap, ◌∙◌}
-use native.Mathlib.Nat.{mod-lt}
+use mathlib.Core.Path.{◌≡◌, sym, ap, ◌∙◌}
 use native.Mathlib.Omega.{arith}
-use borrow.Author.Rules.{rules}
 use Rattle.fractions.specs.Fractions.{greatest_divisor}
 use Rattle.fractions.proofs.Divisors.{euclid, euclid_ends}
 use Rattle.fractions.proofs.gcd.Goals as goal

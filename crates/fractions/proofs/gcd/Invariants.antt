@@ -1,10 +1,6 @@
 -- `fractions::gcd` meets its contract: each division keeps the greatest common divisor.
-use mathlib.Core.Path.{◌≡◌, refl, sym, ap, ◌∙◌}
-use native.Mathlib.Nat.{mod-lt}
-use native.Mathlib.Omega.{arith}
-use borrow.Author.Rules.{rules}
+use mathlib.Core.Path.{◌≡◌}
 use Rattle.fractions.specs.Fractions.{greatest_divisor}
-use Rattle.fractions.proofs.Divisors.{euclid, euclid_ends}
 use Rattle.fractions.proofs.gcd.Given as goal
 
 abbrev pub invariant-loop-y : goal.invariant-loop-y

@@ -2,7 +2,6 @@
 use Prim.Native.Nat.{◌/◌}
 use native.Mathlib.Nat.{div-zero}
 use mathlib.Core.Path.{sym, ap, ◌∙◌}
-use borrow.Author.Rules.{rules}
 use Rattle.fractions.specs.Fractions.{lowest_terms}
 use Rattle.fractions.proofs.lowest.Goals as goal
 

@@ -1,14 +1,13 @@
 -- `packed::collect_at` meets its contract.
-use Prim.Native.Nat.{◌*◌, ◌-◌, ◌≤◌}
+use Prim.Native.Nat.{◌*◌}
 use native.Mathlib.Numerals.{add-one}
 use native.Mathlib.Omega.{arith}
-use mathlib.Core.Path.{◌≡◌, refl, sym, ap, ◌∙◌}
+use mathlib.Core.Path.{sym, ap, ◌∙◌}
 use mathlib.Core.List.{[], ◌∷◌, ◌++◌}
-use lib.ListN.{length, take, drop, set, length-set}
-use lib.Seq.{drop-drop, take_all, take-suc-set}
+use lib.ListN.{take, drop, set, length-set}
+use lib.Seq.{drop-drop, take-suc-set}
 use Rattle.packed.specs.Packing.{unpack_register, unpack_collect}
 use Rattle.packed.proofs.Packing.{unpack_more}
-use borrow.Author.Rules.{rules}
 use Rattle.packed.proofs.collect_at.Goals as goal
 
 pub loop-i-preserved : goal.loop-i-preserved

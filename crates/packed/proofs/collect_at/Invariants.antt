@@ -1,14 +1,8 @@
 -- `packed::collect_at` meets its contract.
-use Prim.Native.Nat.{◌*◌, ◌-◌, ◌≤◌}
-use native.Mathlib.Numerals.{add-one}
-use native.Mathlib.Omega.{arith}
-use mathlib.Core.Path.{◌≡◌, refl, sym, ap, ◌∙◌}
-use mathlib.Core.List.{[], ◌∷◌, ◌++◌}
-use lib.ListN.{length, take, drop, set, length-set}
-use lib.Seq.{drop-drop, take_all, take-suc-set}
-use Rattle.packed.specs.Packing.{unpack_register, unpack_collect}
-use Rattle.packed.proofs.Packing.{unpack_more}
-use borrow.Author.Rules.{rules}
+use Prim.Native.Nat.{◌-◌, ◌≤◌}
+use mathlib.Core.Path.{◌≡◌}
+use lib.ListN.{length, take, drop}
+use Rattle.packed.specs.Packing.{unpack_collect}
 use Rattle.packed.proofs.collect_at.Given as goal
 
 abbrev pub invariant-loop-i : goal.invariant-loop-i

@@ -3,7 +3,6 @@ use mathlib.Core.Path.{sym, ap}
 use mathlib.Core.List.{map}
 use Rattle.packed.specs.Packing.{unpack_mark}
 use Rattle.packed.proofs.Words.{eight_words}
-use borrow.Author.Rules.{rules}
 use Rattle.packed.proofs.marks_at.Goals as goal
 
 pub returns : goal.returns

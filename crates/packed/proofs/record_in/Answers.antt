@@ -1,6 +1,5 @@
 -- `packed::record_in` meets its contract.
 use Rattle.packed.specs.Packing.{unpack_record}
-use borrow.Author.Rules.{rules}
 use Rattle.packed.proofs.record_in.Goals as goal
 
 pub returns : goal.returns

@@ -2,7 +2,6 @@
 use mathlib.Core.Path.{sym, ap, ◌∙◌}
 use lib.Seq.{drop-drop, get_or-drop}
 use Rattle.packed.specs.Packing.{unpack_view}
-use borrow.Author.Rules.{rules}
 use Rattle.packed.proofs.register_at.Goals as goal
 
 pub returns : goal.returns

@@ -5,7 +5,6 @@ use native.Mathlib.Omega.{arith}
 use lib.ListN.{take, drop, length-take}
 use Rattle.dayfile.proofs.Reader.{found_consumes}
 use Rattle.book.specs.Passes.{next_after}
-use borrow.Author.Rules.{rules}
 use Rattle.book.proofs.notes.next_of.Goals as goal
 
 pub returns : goal.returns

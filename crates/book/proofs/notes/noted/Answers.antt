@@ -1,7 +1,5 @@
 -- `book::notes::noted` meets its contract.
-use native.Mathlib.Omega.{arith}
 use Rattle.book.proofs.Past.{past_found, past_ended}
-use borrow.Author.Rules.{rules}
 use Rattle.book.proofs.notes.noted.Goals as goal
 
 pub returns-in_default : goal.returns-in_default

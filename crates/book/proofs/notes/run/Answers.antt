@@ -1,16 +1,16 @@
 -- A lap asks the record that stands next and notes what it finishes, which leaves the rest of the file to do.
-use Prim.Native.Nat.{ℕ, ◌≤◌, ◌<◌, ◌+◌, ◌-◌}
+use Prim.Native.Nat.{◌≤◌, ◌<◌}
 use native.Mathlib.Omega.{arith}
 use mathlib.Core.Path.{◌≡◌, sym, ap, subst, ◌∙◌}
 use mathlib.Core.List.{◌++◌}
-use lib.ListN.{length, take, drop, length-append, length-drop}
+use lib.ListN.{take, drop, length-append, length-drop}
 use Rattle.std.proofs.lemmas.List.{length-take-le}
-use borrow.Author.Tests.{not-true, not-false}
+use borrow.Author.Tests.{not-true}
 use Rattle.snapshot.specs.Values.{words_in}
-use Rattle.days.specs.Asking.{request_of, lent_to, asked_outcome, asked_table, asked_page}
+use Rattle.days.specs.Asking.{lent_to, asked_outcome, asked_table, asked_page}
 use Rattle.days.proofs.Kept.{lent_to_le}
 use Rattle.book.specs.Passes.{notes_past, book_past}
-use Rattle.book.proofs.Passing.{Lap, Ready, outcome_from, laps_left, lap_lent, lap_outcome, lap_records, next_lap}
+use Rattle.book.proofs.Passing.{Lap, Ready, outcome_from, laps_left, next_lap}
 use Rattle.book.proofs.Passing.{lap_ready, lap_fewer, lap_done}
 use Rattle.book.proofs.notes.run.Goals as goal
 

@@ -6,7 +6,6 @@ use lib.ListN.{drop, length-take}
 use Rattle.dayfile.proofs.Reader.{found_consumes, refused_some}
 use Rattle.streams.specs.Input.{input_left}
 use Rattle.laps.specs.Progress.{next_in}
-use borrow.Author.Rules.{rules}
 use Rattle.laps.proofs.records.next_of.Goals as goal
 
 pub returns : goal.returns

@@ -1,7 +1,6 @@
 -- `laps::records::past` meets its contract: a record that was found ends within the input.
 use Prim.Native.Nat.{ℕ}
 use mathlib.Core.Path.{◌≡◌, refl, sym, ap, ap₂, ◌∙◌}
-use native.Mathlib.Omega.{arith}
 use Rattle.snapshot.specs.declared.Day.{Day}
 use Rattle.snapshot.specs.declared.Request.{Request}
 use Rattle.dayfile.specs.declared.Reading.{Reading}
@@ -11,7 +10,6 @@ use Rattle.daytext.specs.Buffer.{laid_place}
 use Rattle.laps.specs.declared.records.Progress.{Progress}
 use Rattle.daylines.specs.Printed.{line_of, is_end}
 use Rattle.laps.specs.Progress.{closed_progress, progress_past}
-use borrow.Author.Rules.{rules}
 use Rattle.laps.proofs.records.past.Goals as goal
 
 -- where no record was found

@@ -1,18 +1,18 @@
 -- A lap runs the record that stands next and lays its line, and the laps that are left come to the rest.
-use Prim.Native.Nat.{ℕ, ◌≤◌, ◌<◌, ◌+◌, ◌-◌}
+use Prim.Native.Nat.{ℕ, ◌≤◌, ◌<◌}
 use native.Mathlib.Omega.{arith}
 use mathlib.Core.Path.{◌≡◌, sym, ap, ap₂, subst, ◌∙◌}
 use mathlib.Core.List.{◌++◌}
 use lib.ListN.{length, take, drop, length-append, length-drop}
 use Rattle.std.proofs.lemmas.List.{length-take-le}
 use Rattle.snapshot.specs.Values.{words_in, lasts_in}
-use Rattle.days.specs.Asking.{request_of, lent_to, asked_outcome, asked_table, asked_page}
+use Rattle.days.specs.Asking.{lent_to, asked_outcome, asked_table, asked_page}
 use Rattle.days.proofs.Kept.{lent_to_le}
 use Rattle.daytext.specs.Buffer.{laid_place, laid_text}
 use Rattle.daylines.specs.Printed.{line_of}
 use Rattle.laps.specs.Laps.{ran}
 use Rattle.laps.specs.Progress.{progress_past, lines_left, CanLay, stand_at}
-use Rattle.laps.proofs.Laps.{Turn, stand_in, Ready, next_turn, lap_fewer, lap_ready, lap_done, no_lap}
+use Rattle.laps.proofs.Laps.{Turn, stand_in, next_turn, lap_fewer, lap_ready, lap_done, no_lap}
 use Rattle.laps.proofs.records.run.Goals as goal
 
 pub slice_bounds-table-end : goal.slice_bounds-table-end
