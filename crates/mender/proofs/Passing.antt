@@ -3,19 +3,17 @@
 use Prim.Native.Nat.{ℕ, ◌+◌, ◌-◌, ◌≤◌, ◌<◌}
 use native.Mathlib.Omega.{arith}
 use native.Mathlib.Nat.{le_refl}
-use mathlib.Core.Path.{◌≡◌, refl, sym, ap, ap₂, ◌∙◌, subst}
+use mathlib.Core.Path.{◌≡◌, refl, sym, ap, ap₂, ◌∙◌}
 use mathlib.Core.List.{List, [], ◌∷◌, ◌++◌, map, append_assoc, append-nil, map-append}
 use mathlib.Core.Option.{Option, none, some}
 use lib.ListN.{length, take, drop, set, length-append, length-drop, length-map, drop_of_length-le}
 use lib.Seq.{sets, length-take-le, drop-drop, take-add}
 use Rattle.snapshot.specs.Refusals.{number_of}
-use Rattle.snapshot.specs.Lists.{sum_of}
 use Rattle.snapshot.specs.declared.Refusal.{Refusal}
 use Rattle.snapshot.specs.declared.Refusal.TheVariants.{CountRange, ProcessRange, Busy, Idle, DayFull, LentSize, CutShort}
 use Rattle.snapshot.specs.declared.Refusal.TheVariants.{UnknownKind, WrongLength, OpenState, CannotArise, RoomShort, TableShort}
 use Rattle.snapshot.specs.declared.Refusal.TheVariants.{NoPage, TooMany}
 use Rattle.snapshot.proofs.Lists.{sum_append, sets_then}
-use Rattle.dayfile.specs.Reader.{reading}
 use Rattle.dayfile.specs.declared.Reading.{Reading}
 use Rattle.dayfile.specs.Pieces.{Piece, first_piece_of, pieces_up_to, pieces}
 use Rattle.dayfile.proofs.Pieces.{span_fits, first_piece}

@@ -1,9 +1,8 @@
 -- How the code mends a file: a part after the other.
-use Rattle.std.specs.Prelude.{ℕ, ◌+◌, ◌≤◌, ◌<◌, ◌≡◌, List, [], ◌∷◌, ◌++◌, map, length, take, drop}
+use Rattle.std.specs.Prelude.{ℕ, ◌+◌, ◌≤◌, ◌<◌, ◌≡◌, List, ◌++◌, map, length, take, drop}
 use Rattle.std.proofs.lemmas.List.Edits.{sets}
 use Rattle.snapshot.specs.Lists.{sum_of}
 use Rattle.snapshot.specs.Requests.{blank_day}
-use Rattle.snapshot.specs.declared.Day.{Day}
 use Rattle.dayfile.specs.Pieces.{Piece, pieces}
 use Rattle.days.specs.Happenings.{Box}
 use Rattle.packed_rows.specs.Rows.{LongRows}

@@ -1,5 +1,7 @@
 // Mending a damaged day file: it is read from end to end, and each piece of it is kept or dropped. What is kept goes into one lent room,
 // and a row for each drop into another: its first byte, its byte count and the number of its refusal.
+#![tactic(auto)]
+
 ghost use Rattle.std.specs.Prelude.{◌≡◌, not, map, ◌+◌, ◌^◌, ◌<◌, ◌≤◌, length, set};
 ghost use Rattle.std.proofs.lemmas.List.Edits.{sets};
 ghost use Rattle.packed_rows.specs.Rows.{LongRows};
