@@ -60,6 +60,23 @@ fn run(
     output::write_out(rt, out, end, b"day_figures: cannot write standard output")
 }
 
+// The run on buffers of these sizes. A label begins the same for each file.
+fn lent(
+    rt: &HostRuntime,
+    desks: u32,
+    n: usize,
+    label: &mut [u8; LABEL],
+    bytes: &mut [u8; INPUT],
+    answers: &mut [[u32; 3]; ANSWERS],
+    out: &mut [u8; OUTPUT],
+) -> bool
+    requires { 2 ≤ n }
+    ensures { IsFiguresRun desks (n - 2) 2097153 out.old out.new result }
+{
+    texts::bytes(b"day_figures: cannot read ", label, 0);
+    run(rt, desks, n, label, bytes, answers, out)
+}
+
 // The run, with room for the longest day file, for more answers than figures are made of, and for the line.
 fn start(rt: &HostRuntime, desks: u32, n: usize)
     requires { 2 ≤ n }
@@ -68,8 +85,7 @@ fn start(rt: &HostRuntime, desks: u32, n: usize)
     let mut bytes = [0u8; INPUT];
     let mut answers = [[0u32; 3]; ANSWERS];
     let mut out = [0u8; OUTPUT];
-    texts::bytes(b"day_figures: cannot read ", &mut label, 0);
-    run(rt, desks, n, &mut label, &mut bytes, &mut answers, &mut out);
+    lent(rt, desks, n, &mut label, &mut bytes, &mut answers, &mut out);
 }
 
 // Reads the desk count, which is the first of n arguments, and starts the run with it.
