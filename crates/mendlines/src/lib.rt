@@ -1,4 +1,6 @@
 // The lines of what was dropped from a damaged day file, one a drop, laid into a lent buffer. The answer is the place after what was laid.
+#![tactic(auto)]
+
 ghost use Rattle.std.specs.Prelude.{◌+◌, ◌*◌, ◌≤◌, length, take};
 ghost use Rattle.texts.specs.Laying.{Laid};
 ghost use Rattle.mendlines.specs.DropText.{longest_drop, row_text, rows_text};
