@@ -1,5 +1,7 @@
 // The register by numbers, for programs in C and Rust: a table of packed records, a request and its reply, and the reader and the mender
 // of day files. bindings/c/nelvaquist.h says what a caller has to hold to.
+#![tactic(auto)]
+
 ghost use Rattle.std.specs.Prelude.{◌≡◌, [], length};
 ghost use Rattle.snapshot.specs.declared.Request.TheVariants.{Open, Update, Scan, Turn};
 ghost use Rattle.dayfile.specs.Reader.{reading, reader_reply};
