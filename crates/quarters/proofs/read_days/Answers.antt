@@ -1,6 +1,6 @@
 -- One file more.
 use Rattle.std.proofs.Common.{◌≡◌, ◌+◌, ◌-◌, length, arith, subst}
-use Rattle.quarters.specs.Days.{AreRead, IsDayAdded}
+use Rattle.quarters.specs.Days.{AreRead}
 use Rattle.quarters.proofs.Days.{one_more}
 use Rattle.quarters.proofs.read_days.Goals as goal
 
