@@ -1,6 +1,6 @@
 -- A pass of the program: there is room for what its parts come to (`room-enough`), and these are handed to the system (`passed`). What is
 -- handed to it by passes one after the other are the parts of the file (`Ahead`).
-use Prim.Native.Nat.{ℕ, ◌+◌, ◌*◌, ◌≤◌, ◌<◌}
+use Prim.Native.Nat.{ℕ, ◌*◌, ◌≤◌, ◌<◌}
 use native.Mathlib.Decide.{dec_lt}
 use native.Mathlib.Omega.{arith}
 use mathlib.Core.Path.{◌≡◌, refl, sym, ap, ◌∙◌, subst}
@@ -13,7 +13,7 @@ use Rattle.dayfile.specs.Pieces.{pieces_up_to, pieces}
 use Rattle.packed_days.specs.Boxes.{box_in}
 use Rattle.mending.specs.Mending.{Part, judged, kept_of, Drop, drops_of}
 use Rattle.mender.specs.declared.Progress.{Progress}
-use Rattle.mender.specs.Results.{row_of, at_front}
+use Rattle.mender.specs.Results.{row_of}
 use Rattle.mender.specs.Passes.{stage, IsPassUpTo}
 use Rattle.mender.proofs.Passing.{drops_few}
 use Rattle.mender.proofs.Rooms.{pass_short, front_stored}

@@ -1,5 +1,5 @@
 -- What a pass hands on is ahead of the rest; at the end of the file, or where standard output did not take it, that is all.
-use Rattle.std.proofs.Common.{length, rules}
+use Rattle.std.proofs.Common.{rules}
 use Rattle.snapshot.specs.Requests.{blank_day}
 use Rattle.dayfile.specs.Pieces.{pieces}
 use Rattle.packed_days.specs.Boxes.{box_in}
