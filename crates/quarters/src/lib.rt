@@ -59,7 +59,7 @@ fn read_file<F: Read + Drop, M: Write>(
     }
 }
 
-// Opens the file of that name. Files are named by text: a name that is none is one that no file has.
+// Opens the file of that name. std opens files by names that are text alone, so that one with another name cannot be read.
 fn open<R: Files>(rt: &R, name: &[u8]) -> io::Result<R::File> {
     match str::from_utf8(name) {
         Ok(path) => fs::open(rt, path),

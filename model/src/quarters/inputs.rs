@@ -176,10 +176,11 @@ impl Quarters {
             let day = self.lay(name, broken.clone())?;
             self.by_hand("a file's name", "2", &[day], wanted)?;
         }
+        // A name that is no text is one that the program cannot open, though the file is there.
         let name = OsStr::from_bytes(b"m\xe4rz.day");
         fs::write(self.scratch.join(name), papers::day("B"))?;
         let run = self.run(&[OsStr::new("2"), name])?;
-        let held = self.held(&run, &format!("{wanted}\n"), &[]);
+        let held = self.held(&run, "", &[(&name.to_string_lossy(), None)]);
         held.map_err(|why| format!("the name {name:?}: {why}").into())
     }
 
