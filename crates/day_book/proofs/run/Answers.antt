@@ -1,11 +1,11 @@
 -- What was read, what was laid of it, and whether it was taken.
-use Rattle.std.proofs.Common.{subst}
+use Rattle.std.proofs.Common.{subst, arith}
 use Rattle.streams.specs.System.{IsSent}
 use Rattle.texts.proofs.Laying.{laid_start}
 use Rattle.day_book.proofs.run.Goals as goal
 
 pub write_out-requires : goal.write_out-requires
-write_out-requires c = (laid_start c.lay_input-n.ensures).1
+write_out-requires c = let room = (laid_start c.lay_input-n.ensures).1 in omega (arith, room)
 
 pub returns : goal.returns
 returns c =
