@@ -40,7 +40,8 @@ pub fn plan<R: Record>(day: Day, t: &[R], x: Request, words: usize) -> Check
         return c;
     }
     let i = requests::index_in(x);
-    checks::last_check(s, x, tasks::is_idle(t[i].task()))
+    let task = t[i].task();
+    checks::last_check(s, x, tasks::is_idle(task))
 }
 
 // An accepted call.

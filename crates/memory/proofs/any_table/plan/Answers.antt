@@ -38,8 +38,8 @@ returns g c page q =
     let l = plan_inside a.day ps a.x c.requires a.words passed in
     let long = kept_long form t in
     let i = c.index_in-i in
-    let task = c.task.ensures ∙ ap (λ r. (form.read r).task) c.index-t-i.is in
-    let idle = c.is_idle.ensures ∙ ap is_idle (task_is form t i.result _ c.task.result c.index-t-i.result i.ensures (omega arith) task) in
+    let task = c.task-task.ensures ∙ ap (λ r. (form.read r).task) c.index-t-i.is in
+    let idle = c.is_idle.ensures ∙ ap is_idle (task_is form t i.result _ c.task-task.result c.index-t-i.result i.ensures (omega arith) task) in
     c.last_check.ensures
     ∙ (λ j. last_refusal (found j) a.x (idle j))
     ∙ plan_last a.day ps a.x c.requires a.words passed page q
