@@ -56,10 +56,6 @@ module _ {R : Type 0} (form : Form R) (t : List R) (x : Request) (r : Result (St
   pub after_accepted : is_refused r.answer ≡ false → left_by form t x r.state.table ≡ table_left form t x r
   after_accepted e = ap (λ b. cond b t (left_by form t x r.state.table)) (sym e)
 
-pub refusal_refused : (day : Day) (c : Option Refusal) → T (is_refusal c) → is_refused (refused_outcome day c).answer ≡ true
-refusal_refused day none h = absurd h
-refusal_refused day (some k) h = refl
-
 either_accepted : (b : Bool) (lender at turns : ℕ) → is_refused (cond b (Page lender at turns) Read) ≡ false
 either_accepted true lender at turns = refl
 either_accepted false lender at turns = refl
@@ -115,14 +111,11 @@ module _ {R : Type 0} (form : Form R) (day : Day) (t : List R) where
   IsLeft x a o t' = (o ≡ outcome_of (stepped s a)) × (t' ≡ table_left form t x (stepped s a))
 
   -- where it is refused, with the page list that it leaves
-  pub left_refused : (x : Request) (a : Item) (c : Option Refusal) → c ≡ refusal_in s a → T (is_refusal c) →
-      (refused_outcome day c ≡ outcome_of (stepped s a)) × (t ≡ table_left form t x (stepped s a)) × (page_lent a ≡ (stepped s a).page)
-  left_refused x a c e h =
-      let l = stepped_refused s a c e h in (
-        l.0,
-        after_refused form t x (stepped s a) (sym (ap (λ o. is_refused o.answer) l.0) ∙ refusal_refused day c h),
-        l.2,
-      )
+  pub left_refused : (x : Request) (a : Item) (k : Refusal) → refusal_in s a ≡ some k →
+      (refused_outcome day (some k) ≡ outcome_of (stepped s a)) × (t ≡ table_left form t x (stepped s a)) × (page_lent a ≡ (stepped s a).page)
+  left_refused x a k h =
+      let l = stepped_refused s a k h in
+      (l.0, after_refused form t x (stepped s a) (sym (ap (λ o. is_refused o.answer) l.0)), l.2)
 
   -- where it is accepted
   pub left_accepted : {o : Outcome} {t' : List R} (page : List ℕ) (x : Request) → let a = item_of page x in refusal_in s a ≡ none →

@@ -67,9 +67,9 @@ module _ (day : Day) (ps : List Process) (page : List ℕ) (x : Request) where
       ∙ accepted_left x h
       ∙ ap (λ q. q.state.table) same
   stepped_left (some k) h =
-      sym (left_refused plain day ps x (item_of page x) (some k) (sym h) tt).1
+      sym (left_refused plain day ps x (item_of page x) k h).1
       ∙ sym (kept_plain ps)
-      ∙ (stepped_refused s (item_of page x) (some k) (sym h) tt).1
+      ∙ (stepped_refused s (item_of page x) k h).1
 
   pub plain_left : table_left plain ps x (stepped_on plain day ps x page) ≡ (stepped (state_of day ps) (item_of page x)).state.table
   plain_left =

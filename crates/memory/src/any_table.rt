@@ -19,9 +19,9 @@ ghost use Rattle.memory.specs.Turning.{TurnAt, read_at, found_at};
 ghost use Rattle.memory.specs.Left.{table_left, stepped_on};
 
 use crate::elements;
-use admission::{Check, checks, outcomes};
+use admission::{checks, outcomes};
 use process_records::Record;
-use snapshot::{Day, Outcome, Request};
+use snapshot::{Day, Outcome, Refusal, Request};
 use unbounded::Task;
 use unbounded_accesses::accesses;
 use unbounded_finds::finds;
@@ -29,23 +29,20 @@ use unbounded_surveys::surveys;
 use unbounded_tasks::tasks;
 
 // The refusal of a call or a turn, if any, where its page list has that many words.
-pub fn plan<R: Record>(day: Day, t: &[R], x: Request, words: usize) -> Check
+fn plan<R: Record>(day: Day, t: &[R], x: Request, words: usize) -> Result<(), Refusal>
     requires { T (not (is_opening x)) }
     ensures { RefusedBy day (kept R.form t.now) x words (as_option result) }
 {
     let before = surveys::survey_of(day);
     let s = elements::survey(t, before);
-    let c = checks::first_check(day, t.len(), s, x, words);
-    if checks::is_refused(c) {
-        return c;
-    }
+    checks::first_check(day, t.len(), s, x, words)?;
     let i = requests::index_in(x);
     let task = t[i].task();
     checks::last_check(s, x, tasks::is_idle(task))
 }
 
 // An accepted call.
-pub fn call<R: Record>(day: Day, t: &mut [R], x: Request) -> Outcome
+fn call<R: Record>(day: Day, t: &mut [R], x: Request) -> Outcome
     requires { T (is_call x) × (refusal_in (state_of day (kept R.form t.old)) (item_of [] x) ≡ none) }
     ensures value { result ≡ outcome_of (accepted_in (state_of day (kept R.form t.old)) (item_of [] x)) }
     ensures t_after { t.new ≡
@@ -110,9 +107,8 @@ pub fn open<R: Record>(day: Day, t: &mut [R], k: u32) -> Outcome
     ensures t_after { t.new ≡
         table_left R.form t.old (Open k) (stepped (state_of day (kept R.form t.old)) (open_for k)) }
 {
-    let c = checks::opening_check(day, t.len(), k);
-    if checks::is_refused(c) {
-        return outcomes::refused(day, c);
+    if let Err(refusal) = checks::opening_check(day, t.len(), k) {
+        return outcomes::refused(day, refusal);
     }
     elements::clear_all(t);
     outcomes::opened(k)
@@ -127,9 +123,8 @@ pub fn step<R: Record>(day: Day, t: &mut [R], x: Request, page: &mut [u32]) -> O
     if requests::is_opening(x) {
         return open(day, t, snapshot::number_in(x));
     }
-    let c = plan(day, t, x, page.len());
-    if checks::is_refused(c) {
-        return outcomes::refused(day, c);
+    if let Err(refusal) = plan(day, t, x, page.len()) {
+        return outcomes::refused(day, refusal);
     }
     if requests::is_call(x) {
         return call(day, t, x);
@@ -143,9 +138,8 @@ pub fn ask_call<R: Record>(day: Day, t: &mut [R], x: Request) -> Outcome
     ensures value { result ≡ outcome_of (stepped_on R.form day t.old x []) }
     ensures t_after { t.new ≡ table_left R.form t.old x (stepped_on R.form day t.old x []) }
 {
-    let c = plan(day, t, x, requests::no_words());
-    if checks::is_refused(c) {
-        return outcomes::refused(day, c);
+    if let Err(refusal) = plan(day, t, x, 0) {
+        return outcomes::refused(day, refusal);
     }
     call(day, t, x)
 }

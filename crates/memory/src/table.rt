@@ -41,21 +41,19 @@ pub fn step(day: Day, ps: &mut [Process], x: Request, page: &mut [u32]) -> Outco
 }
 
 // An update call (document 01: an entry call) of process d, with its word.
-#[tactic(auto, using(crate::proofs::Plain::plain_left))]
 pub fn update_call(day: Day, ps: &mut [Process], d: u32, word: u32) -> Outcome
     ensures value { result ≡ outcome_of (stepped (state_of day ps.old) (update_call d word)) }
     ensures ps_after { ps.new ≡ (stepped (state_of day ps.old) (update_call d word)).state.table }
 {
-    any_table::ask_call(day, ps, requests::update(d, word))
+    any_table::ask_call(day, ps, Request::Update { process: d, word })
 }
 
 // A scan call (document 01: a page call) of process d.
-#[tactic(auto, using(crate::proofs::Plain::plain_left))]
 pub fn scan_call(day: Day, ps: &mut [Process], d: u32) -> Outcome
     ensures value { result ≡ outcome_of (stepped (state_of day ps.old) (scan_call d)) }
     ensures ps_after { ps.new ≡ (stepped (state_of day ps.old) (scan_call d)).state.table }
 {
-    any_table::ask_call(day, ps, requests::scan(d))
+    any_table::ask_call(day, ps, Request::Scan(d))
 }
 
 // A turn of process d, which lends a page list.
@@ -64,5 +62,5 @@ pub fn turn(day: Day, ps: &mut [Process], d: u32, page: &mut [u32]) -> Outcome
     ensures ps_after { ps.new ≡ (stepped (state_of day ps.old) (turn_of d page.old)).state.table }
     ensures page_after { page.new ≡ (stepped (state_of day ps.old) (turn_of d page.old)).page }
 {
-    step(day, ps, requests::turn(d), page)
+    step(day, ps, Request::Turn(d), page)
 }

@@ -5,7 +5,7 @@ use mathlib.Core.List.{foldl}
 use mathlib.Core.Bool.{not}
 use lib.Dec.{T}
 use Rattle.admission.specs.Checks.{as_option, last_refusal}
-use Rattle.admission.proofs.Checked.{passed_none}
+use Rattle.std.proofs.lemmas.Result.{err_from_is_err_and}
 use Rattle.unbounded.specs.Processes.{is_idle}
 use Rattle.unbounded_surveys.specs.Surveys.{surveyed_by}
 use Rattle.process_records.specs.Forms.{kept}
@@ -14,15 +14,15 @@ use Rattle.memory.proofs.Accepted.{plan_refuses, plan_inside, plan_last}
 use Rattle.memory.proofs.Left.{first_found}
 use Rattle.memory.proofs.any_table.plan.Goals as goal
 
-pub returns-then-is_refused : goal.returns-then-is_refused
-returns-then-is_refused g c =
+pub returns-in_err-first_check : goal.returns-in_err-first_check
+returns-in_err-first_check g c =
     let form = g.R.Record.form in
     let a = c.args in
     let t = a.t.now in
-    let z = c.first_check-c in
-    let e = first_found form a.day t a.x a.words c.survey_of-before.ensures c.survey-s.ensures z.ensures in
-    plan_refuses a.day (kept form t) a.x c.requires a.words (as_option z.result) e
-    (subst T (sym (sym c.is_refused.ensures ∙ c.if-is_refused.true)) tt)
+    let first = first_found form a.day t a.x a.words c.survey_of-before.ensures c.survey-s.ensures c.first_check.ensures in
+    let p = err_from_is_err_and c.from_residual.result c.from_residual.ensures.1 in
+    rw (p.1, p.2) (plan_refuses a.day (kept form t) a.x c.requires a.words c.in_err-first_check.field-0.0
+    (sym first ∙ ap as_option c.in_err-first_check.was))
 
 pub returns : goal.returns
 returns g c page q =
@@ -30,10 +30,8 @@ returns g c page q =
     let a = c.args in
     let t = a.t.now in
     let ps = kept form t in
-    let z = c.first_check-c in
-    let e = first_found form a.day t a.x a.words c.survey_of-before.ensures c.survey-s.ensures z.ensures in
-    let failed = subst (λ b. T (not b)) (sym (sym c.is_refused.ensures ∙ c.if-is_refused.false)) tt in
-    let passed = sym e ∙ passed_none (as_option z.result) failed in
+    let first = first_found form a.day t a.x a.words c.survey_of-before.ensures c.survey-s.ensures c.first_check.ensures in
+    let passed = sym first ∙ ap as_option c.in_ok-first_check.was in
     let found = c.survey-s.ensures ∙ ap (λ v. foldl surveyed_by v ps) c.survey_of-before.ensures in
     let l = plan_inside a.day ps a.x c.requires a.words passed in
     let long = kept_long form t in

@@ -4,7 +4,6 @@ use mathlib.Core.Bool.{not}
 use lib.Dec.{T}
 use Rattle.requests.specs.Requests.{item_of}
 use Rattle.admission.specs.Checks.{as_option}
-use Rattle.admission.proofs.Checked.{passed_none}
 use Rattle.memory.specs.Tables.{state_of, outcome_of, refusal_in, accepted_in}
 use Rattle.memory.specs.Left.{stepped_on}
 use Rattle.process_records.specs.Forms.{kept, left_by}
@@ -22,15 +21,13 @@ returns-then-is_opening g c =
     let left = left_opening form a.day t page a.x _ c.number_in.ensures opening (c.open.ensures.value, c.open.ensures.t_after) in
     record { value = left.0; t_after = left.1; page_after = after_opening page (stepped_on form a.day t a.x page) a.x opening }
 
-pub returns-then-is_refused : goal.returns-then-is_refused
-returns-then-is_refused g c =
+pub returns-in-Err : goal.returns-in-Err
+returns-in-Err g c =
     let form = g.R.Record.form in
     let a = c.args in
     let t = a.t.now in
     let page = a.page.now in
-    let z = c.plan-c in
-    let left = left_refused form a.day t a.x (item_of page a.x) (as_option z.result) (z.ensures page refl)
-    (subst T (sym (sym c.is_refused.ensures ∙ c.if-is_refused.true)) tt) in
+    let left = left_refused form a.day t a.x (item_of page a.x) c.in-Err.refusal (sym (c.plan.ensures page refl) ∙ ap as_option c.in-Err.is) in
     record {
       value = c.refused.ensures ∙ left.0;
       t_after = left.1;
@@ -42,8 +39,7 @@ call-requires g c =
     let form = g.R.Record.form in
     let a = c.args in
     let page = a.page.now in
-    let failed = subst (λ b. T (not b)) (sym (sym c.is_refused.ensures ∙ c.if-is_refused.false)) tt in
-    let passed = sym (c.plan-c.ensures page refl) ∙ passed_none (as_option c.plan-c.result) failed in
+    let passed = sym (c.plan.ensures page refl) ∙ ap as_option c.in_default.is in
     let call = (subst T (sym (sym c.is_call.ensures ∙ c.if-is_call.true)) tt) in
     (call, ap (refusal_in (state_of a.day (kept form a.t.now))) (call_same page a.x call) ∙ passed)
 
@@ -53,9 +49,7 @@ returns-then-is_call g c =
     let a = c.args in
     let t = a.t.now in
     let page = a.page.now in
-    let z = c.plan-c in
-    let failed = subst (λ b. T (not b)) (sym (sym c.is_refused.ensures ∙ c.if-is_refused.false)) tt in
-    let passed = sym (z.ensures page refl) ∙ passed_none (as_option z.result) failed in
+    let passed = sym (c.plan.ensures page refl) ∙ ap as_option c.in_default.is in
     let calls = subst T (sym (sym c.is_call.ensures ∙ c.if-is_call.true)) tt in
     let even = ap (accepted_in (state_of a.day (kept form t))) (call_same page a.x calls) in
     let said = c.call.ensures in
@@ -69,9 +63,7 @@ returns g c =
     let a = c.args in
     let t = a.t.now in
     let page = a.page.now in
-    let z = c.plan-c in
-    let failed = subst (λ b. T (not b)) (sym (sym c.is_refused.ensures ∙ c.if-is_refused.false)) tt in
-    let passed = sym (z.ensures page refl) ∙ passed_none (as_option z.result) failed in
+    let passed = sym (c.plan.ensures page refl) ∙ ap as_option c.in_default.is in
     let later = subst (λ b. T (not b)) (sym (sym c.is_opening.ensures ∙ c.if-is_opening.false)) tt in
     let turns = subst (λ b. T (not b)) (sym (sym c.is_call.ensures ∙ c.if-is_call.false)) tt in
     let said = c.turn_on.ensures in
