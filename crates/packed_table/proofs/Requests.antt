@@ -6,6 +6,7 @@ use mathlib.Core.List.{List, [], ◌∷◌, map, foldl}
 use mathlib.Core.Option.{Option, none, some}
 use lib.Dec.{T}
 use lib.ListN.{length, get_or}
+use Rattle.std.specs.Prelude.{None, Some}
 use Rattle.snapshot.specs.Requests.{number_in}
 use Rattle.snapshot.specs.Demand.{Result}
 use Rattle.snapshot.specs.Days.{State}
@@ -13,7 +14,6 @@ use Rattle.snapshot.specs.declared.Day.{Day}
 use Rattle.snapshot.specs.declared.Request.{Request}
 use Rattle.snapshot.specs.declared.Request.TheVariants.{Open, Update, Scan, Turn}
 use Rattle.snapshot.specs.declared.Refusal.{Refusal}
-use Rattle.snapshot.specs.declared.Answer.TheVariants.{Page, Read}
 use Rattle.requests.specs.Requests.{item_of, is_opening, is_call}
 use Rattle.admission.specs.Checks.{is_refusal, first_refusal}
 use Rattle.admission.specs.Outcomes.{refused_outcome}
@@ -60,13 +60,13 @@ pub refusal_refused : (day : Day) (c : Option Refusal) → T (is_refusal c) → 
 refusal_refused day none h = absurd h
 refusal_refused day (some k) h = refl
 
-either_accepted : (b : Bool) (lender at turns : ℕ) → is_refused (cond b (Page lender at turns) Read) ≡ false
-either_accepted true lender at turns = refl
-either_accepted false lender at turns = refl
-
 pub answer_accepted : (f : Find) (k : Task) → is_refused (answer_by f k) ≡ false
 answer_accepted f Tasks.Idle = refl
-answer_accepted f (Tasks.Scan t) = either_accepted f.found f.lender f.at (t + 1)
+answer_accepted f (Tasks.Scan t) =
+    elim f.page as (λ p. is_refused (answer_by (record { page = p; passed = f.passed }) (Tasks.Scan t)) ≡ false) [
+      | None ↦ refl
+      | Some page ↦ refl
+    ]
 answer_accepted f (Tasks.Update w t) = refl
 answer_accepted f (Tasks.Ready w at t) = refl
 
