@@ -6,6 +6,7 @@ use mathlib.Core.List.{List, [], ◌∷◌, map, foldl}
 use mathlib.Core.Option.{Option, none, some}
 use lib.Dec.{T}
 use lib.ListN.{length, get_or}
+use Rattle.std.specs.Prelude.{None, Some}
 use Rattle.snapshot.specs.Requests.{number_in}
 use Rattle.snapshot.specs.Demand.{Result}
 use Rattle.snapshot.specs.Days.{State, Item, open_for, page_lent, accept}
@@ -56,13 +57,13 @@ module _ {R : Type 0} (form : Form R) (t : List R) (x : Request) (r : Result (St
   pub after_accepted : is_refused r.answer ≡ false → left_by form t x r.state.table ≡ table_left form t x r
   after_accepted e = ap (λ b. cond b t (left_by form t x r.state.table)) (sym e)
 
-either_accepted : (b : Bool) (lender at turns : ℕ) → is_refused (cond b (Page lender at turns) Read) ≡ false
-either_accepted true lender at turns = refl
-either_accepted false lender at turns = refl
-
 pub answer_accepted : (f : Find) (k : Task) → is_refused (answer_by f k) ≡ false
 answer_accepted f Tasks.Idle = refl
-answer_accepted f (Tasks.Scan t) = either_accepted f.found f.lender f.at (t + 1)
+answer_accepted f (Tasks.Scan t) =
+    elim f.page as (λ p. is_refused (answer_by (record { page = p; passed = f.passed }) (Tasks.Scan t)) ≡ false) [
+      | None ↦ refl
+      | Some page ↦ refl
+    ]
 answer_accepted f (Tasks.Update w t) = refl
 answer_accepted f (Tasks.Ready w at t) = refl
 
