@@ -2,41 +2,35 @@
 // says for every method; crate `memory` gives the turns.
 #![tactic(auto)]
 
-ghost use Rattle.std.specs.Prelude.{◌+◌, ◌≤◌, ◌<◌, ◌≡◌, length, set};
-ghost use Rattle.memory.specs.Tables.{outcome_of};
-ghost use Rattle.runs.specs.Plans.{laid_from, run_outcome_of};
-ghost use Rattle.memory_runs.specs.Runs.{turn_at, run_on};
+ghost use Rattle.std.specs.Prelude.{◌≡◌};
+ghost use Rattle.runs.specs.Plans.{run_outcome_of};
+ghost use Rattle.memory_runs.specs.Runs.{give, told, run_on};
 
 use memory::table;
-use runs::{Plan, Reached, RunOutcome};
-use snapshot::{Answer, Day, Outcome};
+use runs::{RunOutcome, Turns};
+use snapshot::{Answer, Day};
 use unbounded::Process;
 
-// The next turn, of process d: it is lent its own words of the page table.
-fn turn_at(at: Reached, plan: Plan, ps: &mut [Process], d: u32, pages: &mut [u32]) -> Outcome
-    requires { at.words + plan.page ≤ length pages.old }
-    ensures value { result ≡ outcome_of (turn_at at plan ps.old d pages.old) }
-    ensures ps_after { ps.new ≡ (turn_at at plan ps.old d pages.old).state.table }
-    ensures pages_after { pages.new ≡
-        laid_from at.words plan.page (turn_at at plan ps.old d pages.old).page pages.old }
-{
-    let day = at.day;
-    let start = at.words;
-    let end = runs::end_of(at, plan);
-    table::turn(day, ps, d, &mut pages[start..end])
-}
+// Turns on process records as they are, told as the core answers them.
+pub struct Answered;
 
-// Its answer goes in its place.
-fn put(answers: &mut [Answer], at: Reached, o: Outcome)
-    requires { at.turns < length answers.old }
-    ensures { answers.new ≡ set answers.old at.turns o.answer }
-{
-    let i = at.turns;
-    let a = o.answer;
-    answers[i] = a;
+impl Turns for Answered {
+    type Record = Process;
+
+    type Told = Answer;
+
+    ghost give = { give };
+
+    ghost told = { told };
+
+    fn turn(day: Day, ps: &mut [Process], d: u32, page: &mut [u32]) -> (Day, Answer) {
+        let o = table::turn(day, ps, d, page);
+        (o.day, o.answer)
+    }
 }
 
 // A run of the turns of a list: refused, or each is given, one after the other.
+#[tactic(auto, unfolding(snapshot::specs::Runs::ran))]
 pub fn run(
     day: Day,
     ps: &mut [Process],
@@ -53,24 +47,5 @@ pub fn run(
     ensures pages_after { pages.new ≡
         (run_on day ps.old list.now answers.old pages.old).pages }
 {
-    let values = day.count;
-    let plan = match runs::planned(
-        day,
-        ps.len(),
-        values,
-        list.len(),
-        answers.len(),
-        pages.len(),
-    ) {
-        Ok(plan) => plan,
-        Err(refusal) => return runs::refused(day, refusal),
-    };
-    let mut at = runs::begin(day);
-    while runs::goes(at, plan) {
-        let d = runs::process_at(list, at);
-        let o = turn_at(at, plan, ps, d, pages);
-        put(answers, at, o);
-        at = runs::next(at, plan, o.day);
-    }
-    runs::end(at)
+    runs::run::<Answered>(day, ps, list, answers, pages)
 }

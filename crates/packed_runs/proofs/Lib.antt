@@ -1,3 +1,2 @@
--- That runs on words are runs on records, and what the loop of a run needs of replies.
-pub mod Replied
+-- That runs on words are runs on records.
 pub mod Chained

@@ -1,6 +1,6 @@
 -- A run of turns (document 02, K4) on a table of packed records: the run of the definitions, each turn's table packed by the step
 -- that gave it, and each answer as the numbers of its reply.
-use Rattle.std.specs.Prelude.{ℕ, List, length, take, drop}
+use Rattle.std.specs.Prelude.{ℕ, List, length}
 use Rattle.snapshot.specs.declared.Day.{Day}
 use Rattle.snapshot.specs.declared.Request.TheVariants.{Turn}
 use Rattle.snapshot.specs.Values.{page_places}
@@ -8,10 +8,7 @@ use Rattle.snapshot.specs.Refusals.{first_cause}
 use Rattle.snapshot.specs.Demand.{Result}
 use Rattle.snapshot.specs.Days.{State}
 use Rattle.snapshot.specs.Runs.{RunResult, run_causes, run_unless}
-use Rattle.unbounded.specs.declared.Process.{Process}
 use Rattle.packed_table.specs.Tables.{table_after, stepped_in}
-use Rattle.runs.specs.declared.Plan.{Plan}
-use Rattle.runs.specs.declared.Reached.{Reached}
 use Rattle.numbers.specs.Replies.{reply_words}
 use Rattle.packed_requests.specs.Requests.{reply_to}
 
@@ -37,7 +34,3 @@ run_in d t ds replies pages =
     run_unless give_in told_in places
     (first_cause (run_causes d.count (length t) places (length ds) (length replies) (length pages)))
     (record { day = d; table = t }) ds replies pages
-
--- the turn of process d where a run has come so far
-abbrev pub turn_at : Reached → Plan → List (List ℕ) → ℕ → List ℕ → Result (State Process)
-turn_at at plan t d pages = stepped_in at.day t (Turn d) (take plan.page (drop at.words pages))

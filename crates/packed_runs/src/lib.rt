@@ -1,43 +1,34 @@
 // A run of turns on a table of packed records, its answers as numbers; crate `memory_runs` does the same on a table of records.
 #![tactic(auto)]
 
-ghost use Rattle.std.specs.Prelude.{◌+◌, ◌≤◌, ◌<◌, ◌≡◌, length, set};
-ghost use Rattle.snapshot.specs.declared.Request.TheVariants.{Turn};
-ghost use Rattle.packed_table.specs.Tables.{table_after};
-ghost use Rattle.numbers.specs.Replies.{reply_words};
-ghost use Rattle.packed_requests.specs.Requests.{reply_to};
-ghost use Rattle.runs.specs.Plans.{laid_from, run_outcome_of};
-ghost use Rattle.packed_runs.specs.Runs.{turn_at, run_in};
+ghost use Rattle.std.specs.Prelude.{◌≡◌};
+ghost use Rattle.runs.specs.Plans.{run_outcome_of};
+ghost use Rattle.packed_runs.specs.Runs.{give_in, told_in, run_in};
 
-use numbers::ReplyNumbers;
-use runs::{Plan, Reached, RunOutcome};
+use runs::{RunOutcome, Turns};
 use snapshot::Day;
 
-// The next turn, of process d: it is lent its own words of the page table.
-fn turn_at(at: Reached, plan: Plan, t: &mut [[u32; 369]], d: u32, pages: &mut [u32]) -> ReplyNumbers
-    requires { at.words + plan.page ≤ length pages.old }
-    ensures value { result ≡ reply_to (turn_at at plan t.old d pages.old) }
-    ensures t_after { t.new ≡
-        table_after t.old (Turn d) (turn_at at plan t.old d pages.old) }
-    ensures pages_after { pages.new ≡
-        laid_from at.words plan.page (turn_at at plan t.old d pages.old).page pages.old }
-{
-    let day = at.day;
-    let start = at.words;
-    let end = runs::end_of(at, plan);
-    packed_requests::asked(day, t, 4, d, 0, &mut pages[start..end])
-}
+// Turns on packed records, told by the numbers of their replies. A turn is a request by numbers, as the library's own: so the compiler
+// has one caller of the step (crate `packed_requests`).
+pub struct Numbered;
 
-// Its reply goes in its place.
-fn put(replies: &mut [[u32; 7]], at: Reached, r: ReplyNumbers)
-    requires { at.turns < length replies.old }
-    ensures { replies.new ≡ set replies.old at.turns (reply_words r) }
-{
-    let i = at.turns;
-    replies[i] = numbers::words_of(r);
+impl Turns for Numbered {
+    type Record = [u32; 369];
+
+    type Told = [u32; 7];
+
+    ghost give = { give_in };
+
+    ghost told = { told_in };
+
+    fn turn(day: Day, t: &mut [[u32; 369]], d: u32, page: &mut [u32]) -> (Day, [u32; 7]) {
+        let r = packed_requests::asked(day, t, 4, d, 0, page);
+        (numbers::day_in(r), numbers::words_of(r))
+    }
 }
 
 // A run of the turns of a list: refused, or each is given, one after the other.
+#[tactic(auto, unfolding(crate::specs::Runs::run_in))]
 pub fn run(
     day: Day,
     t: &mut [[u32; 369]],
@@ -54,23 +45,5 @@ pub fn run(
     ensures pages_after { pages.new ≡
         (run_in day t.old list.now replies.old pages.old).pages }
 {
-    let plan = match runs::planned(
-        day,
-        t.len(),
-        day.count,
-        list.len(),
-        replies.len(),
-        pages.len(),
-    ) {
-        Ok(plan) => plan,
-        Err(refusal) => return runs::refused(day, refusal),
-    };
-    let mut at = runs::begin(day);
-    while runs::goes(at, plan) {
-        let d = runs::process_at(list, at);
-        let r = turn_at(at, plan, t, d, pages);
-        put(replies, at, r);
-        at = runs::next(at, plan, numbers::day_in(r));
-    }
-    runs::end(at)
+    runs::run::<Numbered>(day, t, list, replies, pages)
 }

@@ -1,2 +1,3 @@
 -- What the functions of a run compute that no method owns.
 pub mod Plans
+pub mod Given

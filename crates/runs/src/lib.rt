@@ -1,12 +1,15 @@
 // A run of turns, whatever the method: when it is refused, how many turns it has, and which places of the two lent tables each
-// turn takes. A method gives the turns.
+// turn takes. A method gives the turns, by an impl of `Turns`.
 #![tactic(auto)]
 
-ghost use Rattle.std.specs.Prelude.{◌+◌, ◌*◌, ◌<◌, ◌≡◌, length, get_or, ltb, Ok, Err};
+ghost use Rattle.std.specs.Prelude.{ℕ, ◌+◌, ◌*◌, ◌≤◌, ◌<◌, ◌≡◌, List, length, get_or, set, take, drop, ltb, Ok, Err};
+ghost use Rattle.snapshot.specs.Demand.{Result};
+ghost use Rattle.snapshot.specs.Days.{State};
 ghost use Rattle.snapshot.specs.Refusals.{first_cause};
 ghost use Rattle.snapshot.specs.Values.{page_places};
 ghost use Rattle.snapshot.specs.Runs.{is_cramped, run_causes};
-ghost use Rattle.runs.specs.Plans.{plan_of, reached_at, outcome_at};
+ghost use Rattle.runs.specs.Plans.{plan_of, reached_at, outcome_at, laid_from, run_outcome_of};
+ghost use Rattle.runs.specs.Given.{on, turn_at, run_by};
 
 use snapshot::{Day, Refusal};
 
@@ -146,4 +149,74 @@ pub fn refused(day: Day, k: Refusal) -> RunOutcome
     ensures { result ≡ outcome_at day (Err k) }
 {
     RunOutcome { day, check: Err(k) }
+}
+
+// How a method gives the turns of a run: on a table of its records, each told to an answer table.
+pub trait Turns {
+    type Record;
+
+    type Told: Copy;
+
+    // What a turn of a process comes to that is lent a page list, and what is told of that.
+    ghost give: { State Self.Record → (process : ℕ) → (page : List ℕ) → Result (State Self.Record) };
+
+    ghost told: { Result (State Self.Record) → Self.Told };
+
+    fn turn(day: Day, t: &mut [Self::Record], d: u32, page: &mut [u32]) -> (Day, Self::Told)
+        ensures day_after { result.0 ≡ (give (on day t.old) d page.old).state.day }
+        ensures value { result.1 ≡ told (give (on day t.old) d page.old) }
+        ensures t_after { t.new ≡ (give (on day t.old) d page.old).state.table }
+        ensures page_after { page.new ≡ (give (on day t.old) d page.old).page };
+}
+
+// The next turn, of process d: it is lent its own words of the page table.
+fn turn_at<M: Turns>(
+    at: Reached,
+    plan: Plan,
+    t: &mut [M::Record],
+    d: u32,
+    pages: &mut [u32],
+) -> (Day, M::Told)
+    requires { at.words + plan.page ≤ length pages.old }
+    ensures day_after { result.0 ≡ (turn_at M.give at plan t.old d pages.old).state.day }
+    ensures value { result.1 ≡ M.told (turn_at M.give at plan t.old d pages.old) }
+    ensures t_after { t.new ≡ (turn_at M.give at plan t.old d pages.old).state.table }
+    ensures pages_after { pages.new ≡
+        laid_from at.words plan.page (turn_at M.give at plan t.old d pages.old).page pages.old }
+{
+    M::turn(at.day, t, d, &mut pages[at.words..end_of(at, plan)])
+}
+
+// A run of the turns of a list: refused, or each is given, one after the other, and told in its place.
+pub fn run<M: Turns>(
+    day: Day,
+    t: &mut [M::Record],
+    list: &[u32],
+    answers: &mut [M::Told],
+    pages: &mut [u32],
+) -> RunOutcome
+    ensures value { result ≡ run_outcome_of (run_by M.give M.told day t.old list.now answers.old pages.old) }
+    ensures t_after { t.new ≡ (run_by M.give M.told day t.old list.now answers.old pages.old).state.table }
+    ensures answers_after { answers.new ≡ (run_by M.give M.told day t.old list.now answers.old pages.old).answers }
+    ensures pages_after { pages.new ≡ (run_by M.give M.told day t.old list.now answers.old pages.old).pages }
+{
+    let plan = match planned(
+        day,
+        t.len(),
+        day.count,
+        list.len(),
+        answers.len(),
+        pages.len(),
+    ) {
+        Ok(plan) => plan,
+        Err(refusal) => return refused(day, refusal),
+    };
+    let mut at = begin(day);
+    while goes(at, plan) {
+        let d = process_at(list, at);
+        let (after, told) = turn_at::<M>(at, plan, t, d, pages);
+        answers[at.turns] = told;
+        at = next(at, plan, after);
+    }
+    end(at)
 }

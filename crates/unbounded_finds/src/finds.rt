@@ -8,31 +8,19 @@ ghost use Rattle.unbounded_accesses.specs.Accesses.{Sound, RoomFor};
 ghost use Rattle.unbounded_finds.specs.Finds.{nothing_found, decision_find, find_of, page_by};
 
 use crate::collects;
-use snapshot::Value;
 use unbounded::{Process, Register, Task};
 use unbounded_accesses::Access;
-use unbounded_tasks::Find;
+use unbounded_tasks::{Find, Found};
 use values::lay_values;
-
-// Nothing found; the search for a lender passed k processes.
-fn nothing(k: usize) -> Find
-    ensures { result ≡ nothing_found k }
-{
-    let none = Value { word: 0, last: 0 };
-    Find {
-        found: false,
-        passed: k,
-        words: [none; 8],
-        at: 0,
-        lender: 0,
-    }
-}
 
 // What a turn finds that reads no register.
 pub fn nothing_found() -> Find
     ensures { result ≡ nothing_found 0 }
 {
-    nothing(0)
+    Find {
+        page: None,
+        passed: 0,
+    }
 }
 
 // What the end of a double collect finds: its two collects, the end of the first, and the marks from earlier ones.
@@ -41,26 +29,32 @@ fn decide(n: usize, end: u32, a: [Register; 8], b: [Register; 8], moved: [bool; 
     ensures { result ≡ decision_find n end b (some (verdict n (differs ascending a b) (lends (differs ascending a b) moved))) }
 {
     if collects::first_moved(n, a, b) == n {
-        return Find {
-            found: true,
-            passed: 0,
-            words: collects::values(n, b),
+        let page = Found {
+            view: collects::values(n, b),
             at: end,
             lender: 0,
+        };
+        return Find {
+            page: Some(page),
+            passed: 0,
         };
     }
     let j = collects::first_lender(n, a, b, moved);
     if n <= j {
-        return nothing(n);
+        return Find {
+            page: None,
+            passed: n,
+        };
     }
-    let lent = b[j];
-    let v = lent.view;
-    Find {
-        found: true,
-        passed: j,
-        words: v,
-        at: lent.at,
+    let Register { view, at, .. } = b[j];
+    let page = Found {
+        view,
+        at,
         lender: (j + 1) as u32,
+    };
+    Find {
+        page: Some(page),
+        passed: j,
     }
 }
 
@@ -73,7 +67,7 @@ pub fn find_page(a: Access, r: Register, p: Process) -> Find
     let n = a.n;
     let pos = a.pos;
     if pos + 1 != 2 * n {
-        return nothing(0);
+        return nothing_found();
     }
     let first = p.first;
     let moved = p.moved;
@@ -89,20 +83,7 @@ pub fn lay_page(a: Access, k: Task, f: Find, page: &mut [u32])
     requires { Sound a × RoomFor a page.old }
     ensures { page.new ≡ page_by a f k page.old }
 {
-    let n = a.n;
-    let words = f.words;
-    match k {
-        Task::Scan { turns: _ } => {
-            if f.found {
-                lay_values(n, words, page)
-            }
-        }
-        Task::Idle => {}
-        Task::Update { word: _, turns: _ } => {}
-        Task::Ready {
-            word: _,
-            at: _,
-            turns: _,
-        } => {}
+    if let (Task::Scan { .. }, Some(found)) = (k, f.page) {
+        lay_values(a.n, found.view, page);
     }
 }

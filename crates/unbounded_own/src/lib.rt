@@ -64,16 +64,14 @@ fn collect_own(p: &mut Process, a: Access, r: Register)
     p.second[i] = collects::lay(n, r, second);
 }
 
-// The page of f kept as the view, if task k keeps it.
+// What task k keeps of f laid over the view.
+#[tactic(auto, unfolding(unbounded_turns::specs::Steps::kept_by))]
 fn keep_own(p: &mut Process, a: Access, k: Task, f: Find)
     requires { Sound a }
     ensures { p.new ≡ kept_by a f k p.old }
 {
-    if tasks::keeps(k, f) {
-        let old = p.view;
-        let view = over_values(a.n, f.words, old);
-        p.view = view;
-        return;
+    if let Some(page) = tasks::keeps(k, f) {
+        p.view = over_values(a.n, page.view, p.view);
     }
 }
 

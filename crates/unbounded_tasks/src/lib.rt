@@ -5,12 +5,18 @@ use snapshot::Value;
 
 pub mod tasks;
 
-// What a turn found: a page with its instant and lender, or nothing yet; and how many processes its search for a lender passed.
+// A page that a turn found: its view, of which the first n values count, its instant, and its lender, from 1, or 0 where nobody
+// moved.
 #[derive(Clone, Copy)]
-pub struct Find {
-    pub found: bool,
-    pub passed: usize,
-    pub words: [Value; 8],
+pub struct Found {
+    pub view: [Value; 8],
     pub at: u32,
     pub lender: u32,
+}
+
+// What a turn found: a page, if it found one; and how many processes its search for a lender passed.
+#[derive(Clone, Copy)]
+pub struct Find {
+    pub page: Option<Found>,
+    pub passed: usize,
 }

@@ -4,7 +4,7 @@ ghost use Rattle.unbounded.specs.declared.Task.TheVariants.{Idle};
 ghost use Rattle.unbounded.specs.Processes.{is_idle, turns_of};
 ghost use Rattle.unbounded_tasks.specs.Tasks.{task_for, keeps_by, ends_by, task_by, answer_by};
 
-use crate::Find;
+use crate::{Find, Found};
 use snapshot::{Answer, Request};
 use unbounded::Task;
 
@@ -31,31 +31,16 @@ pub fn idle() -> Task
 pub fn is_idle(k: Task) -> bool
     ensures { result ≡ is_idle k }
 {
-    match k {
-        Task::Idle => true,
-        Task::Scan { turns: _ } => false,
-        Task::Update { word: _, turns: _ } => false,
-        Task::Ready {
-            word: _,
-            at: _,
-            turns: _,
-        } => false,
-    }
+    matches!(k, Task::Idle)
 }
 
-// Whether a task keeps the page that a turn found: an update does.
-pub fn keeps(k: Task, f: Find) -> bool
+// What a task keeps of what a turn found: an update keeps the page.
+pub fn keeps(k: Task, f: Find) -> Option<Found>
     ensures { result ≡ keeps_by f k }
 {
     match k {
-        Task::Idle => false,
-        Task::Scan { turns: _ } => false,
-        Task::Update { word: _, turns: _ } => f.found,
-        Task::Ready {
-            word: _,
-            at: _,
-            turns: _,
-        } => false,
+        Task::Update { .. } => f.page,
+        Task::Idle | Task::Scan { .. } | Task::Ready { .. } => None,
     }
 }
 
@@ -64,14 +49,9 @@ pub fn ends(k: Task, f: Find) -> bool
     ensures { result ≡ ends_by f k }
 {
     match k {
-        Task::Idle => false,
-        Task::Scan { turns: _ } => f.found,
-        Task::Update { word: _, turns: _ } => false,
-        Task::Ready {
-            word: _,
-            at: _,
-            turns: _,
-        } => true,
+        Task::Scan { .. } => f.page.is_some(),
+        Task::Ready { .. } => true,
+        Task::Idle | Task::Update { .. } => false,
     }
 }
 
@@ -80,34 +60,18 @@ pub fn task_after(k: Task, f: Find) -> Task
     requires { turns_of k < 4294967295 }
     ensures { result ≡ task_by f k }
 {
-    match k {
-        Task::Idle => Task::Idle,
-        Task::Scan { turns } => {
-            if f.found {
-                Task::Idle
-            } else {
-                Task::Scan { turns: turns + 1 }
-            }
-        }
-        Task::Update { word, turns } => {
-            if f.found {
-                Task::Ready {
-                    word,
-                    at: f.at,
-                    turns: turns + 1,
-                }
-            } else {
-                Task::Update {
-                    word,
-                    turns: turns + 1,
-                }
-            }
-        }
-        Task::Ready {
-            word: _,
-            at: _,
-            turns: _,
-        } => Task::Idle,
+    match (k, f.page) {
+        (Task::Scan { turns }, None) => Task::Scan { turns: turns + 1 },
+        (Task::Update { word, turns }, None) => Task::Update {
+            word,
+            turns: turns + 1,
+        },
+        (Task::Update { word, turns }, Some(Found { at, .. })) => Task::Ready {
+            word,
+            at,
+            turns: turns + 1,
+        },
+        (Task::Scan { .. }, Some(_)) | (Task::Idle | Task::Ready { .. }, _) => Task::Idle,
     }
 }
 
@@ -116,24 +80,13 @@ pub fn answer(k: Task, f: Find) -> Answer
     requires { turns_of k < 4294967295 }
     ensures { result ≡ answer_by f k }
 {
-    match k {
-        Task::Idle => Answer::Read,
-        Task::Scan { turns } => {
-            if f.found {
-                Answer::Page {
-                    lender: f.lender,
-                    at: f.at,
-                    turns: turns + 1,
-                }
-            } else {
-                Answer::Read
-            }
-        }
-        Task::Update { word: _, turns: _ } => Answer::Read,
-        Task::Ready {
-            word: _,
-            at: _,
-            turns,
-        } => Answer::Written { turns: turns + 1 },
+    match (k, f.page) {
+        (Task::Scan { turns }, Some(Found { lender, at, .. })) => Answer::Page {
+            lender,
+            at,
+            turns: turns + 1,
+        },
+        (Task::Ready { turns, .. }, _) => Answer::Written { turns: turns + 1 },
+        (Task::Scan { .. }, None) | (Task::Idle | Task::Update { .. }, _) => Answer::Read,
     }
 }

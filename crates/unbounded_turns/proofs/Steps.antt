@@ -1,7 +1,7 @@
 -- The steps of the code, what a turn finds, the record it leaves, its answer and its page list, are together a turn of `Turns`.
 use Prim.Native.Nat.{ℕ, ◌+◌, ◌-◌}
 use mathlib.Core.Path.{◌≡◌, refl, sym, ap, ◌∙◌}
-use mathlib.Core.Bool.{true, false, cond, true≢false, false≢true}
+use mathlib.Core.Bool.{true, false, true≢false, false≢true}
 use mathlib.Core.List.{List, ◌++◌}
 use mathlib.Core.Option.{Option, none, some}
 use native.Mathlib.Omega.{arith}
@@ -32,7 +32,7 @@ use Rattle.unbounded_accesses.specs.declared.Access.{Access}
 use Rattle.unbounded_tasks.specs.declared.Find.{Find}
 use Rattle.unbounded_accesses.specs.Accesses.{is_ready, access_of, register_in}
 use Rattle.unbounded_finds.specs.Finds.{decision_find, find_of, page_by}
-use Rattle.unbounded_turns.specs.Steps.{with_task, cleared_both, begun_by, read_by, collected_by, kept_by, marked_by, written_by}
+use Rattle.unbounded_turns.specs.Steps.{with_task, cleared_both, begun_by, view_with, read_by, collected_by, kept_by, marked_by, written_by}
 use Rattle.unbounded_turns.specs.Steps.{state_by}
 use Rattle.unbounded_tasks.specs.Tasks.{keeps_by, ends_by, task_by, answer_by}
 use Rattle.unbounded_turns.proofs.Parts.{with_register, with_collected, with_first, with_second, with_end, with_view, with_marks}
@@ -76,7 +76,7 @@ module _ (n now : ℕ) (r : Register) (page : List ℕ) (p : Process) (t : ℕ) 
 
   -- the record of task k, with task k' and view w, where the decision is v
   read_is : (v : Option Verdict) (k k' : Task) (w : List Value) → decided ≡ v →
-      w ≡ cond (keeps_by (finds v) k) (over n (finds v).words p.view) p.view →
+      w ≡ view_with n (keeps_by (finds v) k) p.view →
       after_read ascending n now (position n t) r p k' w ≡ with_task k' (read_by a r p (finds v) k)
   unfolding after_read read_by marks_after
   read_is v k k' w q e =
@@ -221,16 +221,6 @@ module _ (a : Access) (r : Register) (p : Process) where
       with_second (set p.second place (laid a.n r (get_or p.second place no_register))) p ≡ collected_by a r p
   unfolding collected_by first_after second_after read_into
   collected_second e = rw e
-
-module _ (a : Access) (f : Find) (k : Task) (p : Process) where
-  -- the page of f laid over the view, or the view as it was
-  pub kept : keeps_by f k ≡ true → with_view (over a.n f.words p.view) p ≡ kept_by a f k p
-  unfolding kept_by
-  kept e = rw e
-
-  pub not_kept : keeps_by f k ≡ false → p ≡ kept_by a f k p
-  unfolding kept_by
-  not_kept e = rw e
 
 module _ (f : Find) (p : Process) where
   -- the marks stored, or, where the search passed nobody, left

@@ -1,6 +1,6 @@
 -- What the functions on one process record compute, step by step. That together they are a turn of `Turns` is proved
 -- (proofs/Steps).
-use Rattle.std.specs.Prelude.{ℕ, ◌+◌, Bool, cond, List}
+use Rattle.std.specs.Prelude.{ℕ, ◌+◌, Bool, cond, List, Option, None, Some}
 use Rattle.snapshot.specs.Lists.{over}
 use Rattle.snapshot.specs.declared.Value.{Value}
 use Rattle.snapshot.specs.Values.{stored}
@@ -13,6 +13,7 @@ use Rattle.unbounded.specs.Registers.{ascending, differs, laid, cleared}
 use Rattle.unbounded.specs.Processes.{emptied, begin}
 use Rattle.unbounded.specs.Turns.{first_after, second_after, end_after}
 use Rattle.unbounded_accesses.specs.declared.Access.{Access}
+use Rattle.unbounded_tasks.specs.declared.Found.{Found}
 use Rattle.unbounded_tasks.specs.declared.Find.{Find}
 use Rattle.unbounded_tasks.specs.Tasks.{keeps_by, ends_by, task_by}
 
@@ -50,6 +51,11 @@ cleared_both n p = with_collected (cleared n p.first) (cleared n p.second) p.fir
 unfoldable pub begun_by : Access → Task → Process → Process
 begun_by a k p = begin a.n k p
 
+-- a view with the page that a task keeps, if it keeps one, laid over it
+abbrev pub view_with : ℕ → Option Found → List Value → List Value
+view_with n None v = v
+view_with n (Some page) v = over n page.view v
+
 -- the record p of task k once r is read, with the task that it had
 unfoldable pub read_by : Access → Register → Process → Find → Task → Process
 read_by a r p f k =
@@ -61,7 +67,7 @@ read_by a r p f k =
       first = first;
       second = second;
       first_end = end_after a.n a.pos a.now p.first_end;
-      view = cond (keeps_by f k) (over a.n f.words p.view) p.view;
+      view = view_with a.n (keeps_by f k) p.view;
       moved = mark_from (differs ascending first second) f.passed 0 p.moved;
     }
 
@@ -76,9 +82,7 @@ collected_by a r p =
 
 -- p once its task k keeps the page of f, if it does
 unfoldable pub kept_by : Access → Find → Task → Process → Process
-kept_by a f k p =
-    let view = cond (keeps_by f k) (over a.n f.words p.view) p.view in
-    with_collected p.first p.second p.first_end view p.moved p
+kept_by a f k p = with_collected p.first p.second p.first_end (view_with a.n (keeps_by f k) p.view) p.moved p
 
 -- p once each process is marked that the search of f passed and that moved
 unfoldable pub marked_by : Find → Process → Process

@@ -101,8 +101,6 @@ pub fn read(a: Access, r: Register, k: Task, f: Find, p: Process) -> Process
 {
     let n = a.n;
     let pos = a.pos;
-    let v = p.view;
-    let words = f.words;
     let mut q = p;
     q.first_end = end_of(a, q.first_end);
     if pos < n {
@@ -113,9 +111,8 @@ pub fn read(a: Access, r: Register, k: Task, f: Find, p: Process) -> Process
         let old = q.second[i];
         q.second[i] = collects::lay(n, r, old);
     }
-    if tasks::keeps(k, f) {
-        let view = over_values(n, words, v);
-        q.view = view;
+    if let Some(page) = tasks::keeps(k, f) {
+        q.view = over_values(n, page.view, q.view);
     }
     if 0 < f.passed {
         let first = q.first;

@@ -24,8 +24,7 @@ returns-then-n-j c =
     let d = differs ascending a.a a.b in
     let first = c.first_moved.ensures in
     let lender = c.first_lender-j.ensures in
-    c.nothing.ensures
-    ∙ sym (ap (λ v. decision_find a.n a.end a.b (some v))
+    sym (ap (λ v. decision_find a.n a.end a.b (some v))
     (verdict_again a.n d (lends d a.moved) (λ q. c.if-first_moved-n.false (first ∙ q)) (omega arith)))
 
 pub returns : goal.returns

@@ -71,7 +71,7 @@ module _ (a : Access) (r : Register) (p : Process) where
 pub returns-then-pos-n : goal.returns-then-pos-n
 returns-then-pos-n c =
     let s = c.args in
-    let q = finds-nothing s.a s.r s.p _ c.requires c.if-pos-n.true c.nothing.ensures in
+    let q = finds-nothing s.a s.r s.p _ c.requires c.if-pos-n.true c.nothing_found.ensures in
     record { value = q.0; passed_bound = q.1 }
 
 pub returns : goal.returns

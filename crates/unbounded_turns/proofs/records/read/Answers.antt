@@ -2,11 +2,10 @@
 -- marks.
 use Prim.Native.Nat.{ℕ, ◌+◌, ◌-◌, ◌<◌, ◌≤◌}
 use mathlib.Core.Path.{◌≡◌, sym, ap, ◌∙◌}
-use mathlib.Core.Bool.{Bool, cond}
+use Rattle.std.specs.Prelude.{Option}
 use mathlib.Core.List.{List}
 use native.Mathlib.Omega.{arith}
 use lib.ListN.{get_or, set}
-use Rattle.snapshot.specs.Lists.{over}
 use Rattle.snapshot.specs.declared.Value.{Value}
 use Rattle.snapshot.specs.Marks.{mark_from}
 use Rattle.unbounded.specs.declared.Register.{Register}
@@ -15,12 +14,12 @@ use Rattle.unbounded.specs.Registers.{no_register, ascending, laid, read_into, d
 use Rattle.unbounded.specs.Turns.{first_after, second_after, end_after}
 use Rattle.unbounded.proofs.Reading.{first_reads, first_waits, second_reads, second_waits}
 use Rattle.unbounded_accesses.specs.declared.Access.{Access}
-use Rattle.unbounded_tasks.specs.declared.Find.{Find}
-use Rattle.unbounded_turns.specs.Steps.{read_by}
+use Rattle.unbounded_tasks.specs.declared.Found.{Found}
+use Rattle.unbounded_turns.specs.Steps.{view_with, read_by}
 use Rattle.unbounded_tasks.specs.Tasks.{keeps_by}
-use Rattle.unbounded_turns.proofs.Parts.{with_collected}
+use Rattle.unbounded_turns.proofs.Parts.{with_collected, with_view}
 use Rattle.unbounded_turns.proofs.records.read.Goals as goal
-use Rattle.unbounded_turns.proofs.records.read.Goals.{then-pos-n, else-pos-n, then-keeps, else-keeps}
+use Rattle.unbounded_turns.proofs.records.read.Goals.{then-pos-n, else-pos-n, in-Some, in_default}
 
 -- p with the marks of a search that passed k processes
 abbrev passes : ℕ → Process → Process
@@ -62,9 +61,9 @@ module _ (a : Access) (r : Register) (p : Process) where
       ∙ ap (λ k. second_after a.n k r p.second) back in
       λ i. with_collected (first i) (second i) (q i) p.view p.moved p
 
--- the view that p has after it, by whether the page of f is kept
-abbrev view_after : Access → Process → Find → Bool → List Value
-view_after a p f b = cond b (over a.n f.words p.view) p.view
+  -- and once what its task keeps is laid over its view
+  kept : (o : Option Found) (q : Process) → q ≡ stored p.view → with_view (view_with a.n o q.view) q ≡ stored (view_with a.n o p.view)
+  kept o q e = ap (λ (z : Process). with_view (view_with a.n o z.view) z) e
 
 pub returns-then-f-gt0 : goal.returns-then-f-gt0
 unfolding read_by
@@ -77,18 +76,17 @@ returns-then-f-gt0 c =
       | else-pos-n w ↦ w.q-is
           ∙ in-second s.a s.r s.p w.lay-else-pos-n.result end.result w.if-pos-n.false w.lay-else-pos-n.ensures end.ensures
     ] in
-    let by : Bool → Process = λ b. stored s.a s.r s.p (view_after s.a s.p s.f b) in
-    let at_kept : c.if-keeps.q ≡ by (keeps_by s.f s.k) =
-    elim c.if-keeps.branch [
-      | then-keeps w ↦ w.q-is
-          ∙ (λ i. with_collected (at_stored i).first (at_stored i).second (at_stored i).first_end
-          (w.over_values-view.ensures i) (at_stored i).moved (at_stored i))
-          ∙ ap by (sym w.if-keeps.true ∙ c.keeps.ensures)
-      | else-keeps w ↦ w.q-is ∙ at_stored ∙ ap by (sym w.if-keeps.false ∙ c.keeps.ensures)
+    let q = c.if-pos-n.q in
+    let with : Option Found → Process = λ o. with_view (view_with s.a.n o q.view) q in
+    let at_kept : c.match-keeps.q ≡ with c.keeps.result =
+    elim c.match-keeps.branch [
+      | in-Some w ↦ w.q-is ∙ ap (λ v. with_view v q) w.over_values-q.ensures ∙ ap with (sym w.in-Some.is)
+      | in_default w ↦ w.q-is ∙ ap with (sym w.in_default.is)
     ] in
-    let q = c.if-keeps.q in
-    ap (λ ms. with_collected q.first q.second q.first_end q.view ms q) c.mark-moved.ensures
-    ∙ ap (passes s.f.passed) at_kept
+    let all = at_kept ∙ kept s.a s.r s.p c.keeps.result q at_stored ∙ ap (λ o. stored s.a s.r s.p (view_with s.a.n o s.p.view)) c.keeps.ensures in
+    let t = c.match-keeps.q in
+    ap (λ ms. with_collected t.first t.second t.first_end t.view ms t) c.mark-moved.ensures
+    ∙ ap (passes s.f.passed) all
 
 pub returns-else-f-gt0 : goal.returns-else-f-gt0
 unfolding read_by
@@ -101,14 +99,13 @@ returns-else-f-gt0 c =
       | else-pos-n w ↦ w.q-is
           ∙ in-second s.a s.r s.p w.lay-else-pos-n.result end.result w.if-pos-n.false w.lay-else-pos-n.ensures end.ensures
     ] in
-    let by : Bool → Process = λ b. stored s.a s.r s.p (view_after s.a s.p s.f b) in
-    let at_kept : c.if-keeps.q ≡ by (keeps_by s.f s.k) =
-    elim c.if-keeps.branch [
-      | then-keeps w ↦ w.q-is
-          ∙ (λ i. with_collected (at_stored i).first (at_stored i).second (at_stored i).first_end
-          (w.over_values-view.ensures i) (at_stored i).moved (at_stored i))
-          ∙ ap by (sym w.if-keeps.true ∙ c.keeps.ensures)
-      | else-keeps w ↦ w.q-is ∙ at_stored ∙ ap by (sym w.if-keeps.false ∙ c.keeps.ensures)
+    let q = c.if-pos-n.q in
+    let with : Option Found → Process = λ o. with_view (view_with s.a.n o q.view) q in
+    let at_kept : c.match-keeps.q ≡ with c.keeps.result =
+    elim c.match-keeps.branch [
+      | in-Some w ↦ w.q-is ∙ ap (λ v. with_view v q) w.over_values-q.ensures ∙ ap with (sym w.in-Some.is)
+      | in_default w ↦ w.q-is ∙ ap with (sym w.in_default.is)
     ] in
+    let all = at_kept ∙ kept s.a s.r s.p c.keeps.result q at_stored ∙ ap (λ o. stored s.a s.r s.p (view_with s.a.n o s.p.view)) c.keeps.ensures in
     let none : 0 ≡ s.f.passed = omega arith in
-    at_kept ∙ ap (λ k. passes k (stored s.a s.r s.p (view_after s.a s.p s.f (keeps_by s.f s.k)))) none
+    all ∙ ap (λ k. passes k (stored s.a s.r s.p (view_with s.a.n (keeps_by s.f s.k) s.p.view))) none
