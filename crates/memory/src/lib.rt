@@ -1,5 +1,6 @@
 // The table of process records, lent to every call and turn, for Figure 3's method (crate `unbounded`).
 #![tactic(auto)]
 
+pub mod any_table;
 mod elements;
 pub mod table;

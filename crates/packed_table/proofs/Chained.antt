@@ -1,12 +1,12 @@
 -- Requests on words chain as the step of the definitions does: the words after a request are the records that it leaves
--- (`unpacked-after`), and every row has its 369 words again (`long_after`).
+-- (`unpacked_after`), and every row has its 369 words again (`long_after`).
 use Prim.Native.Nat.{ℕ, zero, suc, ◌+◌, ◌-◌, ◌≤◌, ◌<◌}
 use native.Mathlib.Nat.{not-suc-le-zero}
 use native.Mathlib.Omega.{arith}
 use native.Mathlib.Decide.{ℕ_discrete}
 use mathlib.Core.Path.{◌≡◌, refl, sym, ap, ap₂, ◌∙◌, subst}
 use mathlib.Core.Logic.{by_cases}
-use mathlib.Core.Bool.{false, not}
+use mathlib.Core.Bool.{cond, not}
 use mathlib.Core.List.{List, [], ◌∷◌, map}
 use mathlib.Core.Option.{Option, none, some}
 use lib.Dec.{T}
@@ -40,14 +40,14 @@ use Rattle.unbounded.proofs.Whole.{whole_begin, whole_turned, reads_within}
 use Rattle.unbounded.proofs.Demand3.{ascending_permutes}
 use Rattle.memory.specs.Tables.{state_of, refusal_in, accepted_in}
 use Rattle.memory.proofs.Accepted.{stepped_accepted, admits, admits_inside}
+use Rattle.memory.proofs.Left.{answered}
 use Rattle.packed.specs.Packing.{pack_record, packed_over, unpack_record}
 use Rattle.packed_rows.specs.Rows.{unpacked_all, LongRows, packed_at, packed_by}
-use Rattle.packed_table.specs.Tables.{is_refused, table_after, stepped_in}
+use Rattle.packed_table.specs.Tables.{table_after, stepped_in}
 use Rattle.packed.proofs.Words.{sets_all}
 use Rattle.packed.proofs.Packing.{Eights, packed_long, unpack_packed, unpack_whole}
 use Rattle.packed_rows.proofs.Rows.{records_long, record_is, zero_words}
-use Rattle.packed_accepted.proofs.Stored.{stored_packed}
-use Rattle.packed_table.proofs.Requests.{after_accepted, turn_accepted}
+use Rattle.packed_table.proofs.Formed.{stored_packed}
 
 -- ---- records unpacked from any words
 
@@ -179,15 +179,6 @@ module _ (d : Day) (ps : List Process) (whole : (i : ℕ) → i < length ps → 
         refl,
       )
 
-  -- and is answered by no refusal
-  answered : (x : Request) → refusal_in (state_of d ps) (item_of page x) ≡ none →
-      is_refused (accepted_in (state_of d ps) (item_of page x)).answer ≡ false
-  unfolding accept
-  answered (Open k) h = refl
-  answered (Update i w) h = refl
-  answered (Scan i) h = refl
-  answered (Turn i) h = turn_accepted d ps page (Turn i) tt tt h
-
 module _ (d : Day) (t : List (List ℕ)) (x : Request) (page : List ℕ) (long : LongRows t) where
   abbrev s : State Process
   s = state_of d (unpacked_all t)
@@ -201,7 +192,7 @@ module _ (d : Day) (t : List (List ℕ)) (x : Request) (page : List ℕ) (long :
       t' ≡ packed_by t x r.state.table → unpacked_all t' ≡ r.state.table → LongRows t' → After t x r
   by_packed h t' e same rows =
       let r = accepted_in s (item_of page x) in
-      let q = e ∙ after_accepted t x r (answered d (unpacked_all t) table_whole page x h) in
+      let q = e ∙ ap (λ b. cond b t (packed_by t x r.state.table)) (sym (answered d (unpacked_all t) page x h)) in
       (ap unpacked_all (sym q) ∙ same, subst LongRows q rows)
 
   -- an accepted call or turn

@@ -1,24 +1,15 @@
 -- What a request leaves of a table of packed records.
-use Rattle.std.specs.Prelude.{ℕ, Bool, true, false, cond, List}
+use Rattle.std.specs.Prelude.{ℕ, cond, List}
 use Rattle.snapshot.specs.Demand.{Result}
 use Rattle.snapshot.specs.Days.{State}
 use Rattle.snapshot.specs.declared.Day.{Day}
-use Rattle.snapshot.specs.declared.Answer.{Answer}
-use Rattle.snapshot.specs.declared.Answer.TheVariants.{Refused, Opened, Called, Read, Page, Written}
 use Rattle.snapshot.specs.declared.Request.{Request}
 use Rattle.unbounded.specs.declared.Process.{Process}
 use Rattle.unbounded.specs.Days.{stepped}
 use Rattle.requests.specs.Requests.{item_of}
 use Rattle.memory.specs.Tables.{state_of}
+use Rattle.memory.specs.Left.{is_refused}
 use Rattle.packed_rows.specs.Rows.{unpacked_all, packed_by}
-
-abbrev pub is_refused : Answer → Bool
-is_refused (Refused k) = true
-is_refused Opened = false
-is_refused Called = false
-is_refused Read = false
-is_refused (Page lender at turns) = false
-is_refused (Written turns) = false
 
 -- the words after a request with result r; a refusal leaves them
 abbrev pub table_after : List (List ℕ) → Request → Result (State Process) → List (List ℕ)

@@ -1,0 +1,28 @@
+-- A call, with no page list: refused as planned, or done.
+use mathlib.Core.Path.{refl, sym, ap, ◌∙◌}
+use mathlib.Core.List.{[]}
+use Rattle.requests.specs.Requests.{item_of}
+use Rattle.admission.specs.Checks.{as_option}
+use Rattle.memory.proofs.Accepted.{call_item}
+use Rattle.memory.proofs.Left.{left_refused, left_accepted}
+use Rattle.memory.proofs.any_table.ask_call.Goals as goal
+
+pub plan-requires : goal.plan-requires
+plan-requires g c = call_item c.args.x c.requires
+
+pub returns-in-Err : goal.returns-in-Err
+returns-in-Err g c =
+    let a = c.args in
+    let left = left_refused g.R.Record.form a.day a.t.now a.x (item_of [] a.x) c.in-Err.refusal
+    (sym (c.plan.ensures [] refl) ∙ ap as_option c.in-Err.is) in
+    record { value = c.refused.ensures ∙ left.0; t_after = left.1 }
+
+pub call-requires : goal.call-requires
+call-requires g c = (c.requires, sym (c.plan.ensures [] refl) ∙ ap as_option c.in_default.is)
+
+pub returns : goal.returns
+returns g c =
+    let a = c.args in
+    let left = left_accepted g.R.Record.form a.day a.t.now [] a.x (sym (c.plan.ensures [] refl) ∙ ap as_option c.in_default.is)
+    c.call.ensures.value c.call.ensures.t_after in
+    record { value = left.0; t_after = left.1 }

@@ -1,2 +1,0 @@
--- What an accepted call or turn stores.
-pub mod Stored
