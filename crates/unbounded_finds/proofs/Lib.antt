@@ -1,2 +1,3 @@
 -- How many processes a search for a lender passes.
 pub mod Passed
+pub mod Firsts

@@ -1,5 +1,5 @@
 // Registers, and loops over the collects of a record: the first n places compared, marked, and their values copied.
-ghost use Rattle.std.specs.Prelude.{◌≡◌, ◌≤◌, replicate};
+ghost use Rattle.std.specs.Prelude.{◌≡◌, ◌≤◌, ◌&&◌, not, eqb, replicate, position, zip};
 ghost use Rattle.snapshot.specs.Lists.{over, first_below};
 ghost use Rattle.snapshot.specs.Values.{zero_value};
 ghost use Rattle.snapshot.specs.Marks.{lends, mark_from};
@@ -27,79 +27,65 @@ pub fn lay(n: usize, r: Register, old: Register) -> Register
     requires { n ≤ 8 }
     ensures { result ≡ laid n r old }
 {
-    let v = r.view;
-    let w = old.view;
-    let view = over_values(n, v, w);
-    let value = r.value;
     Register {
-        value,
-        seq: r.seq,
-        view,
-        at: r.at,
+        view: over_values(n, r.view, old.view),
+        ..r
     }
+}
+
+// The first place at which the seqs of two collects differ.
+fn moved_in(a: &[Register], b: &[Register]) -> Option<usize>
+    ensures { result ≡ position (λ (x, y). not (eqb x.seq y.seq)) (zip a.now b.now) }
+{
+    a.iter().zip(b).position(|(x, y)| x.seq != y.seq)
 }
 
 // The first of n processes whose seq differs between the two collects, or n.
-pub fn first_moved(n: usize, a: [Register; 8], b: [Register; 8]) -> usize
+pub fn first_moved(n: usize, a: &[Register; 8], b: &[Register; 8]) -> usize
     requires { n ≤ 8 }
-    ensures { result ≡ first_below n (differs ascending a b) }
+    ensures { result ≡ first_below n (differs ascending a.now b.now) }
 {
-    let mut j = 0;
-    while j < n {
-        if a[j].seq != b[j].seq {
-            return j;
-        }
-        j += 1;
-    }
-    n
+    moved_in(&a[..n], &b[..n]).unwrap_or(n)
+}
+
+// The first marked place at which the seqs of two collects differ.
+fn lender_in(a: &[Register], b: &[Register], ms: &[bool]) -> Option<usize>
+    ensures { result ≡ position (λ ((x, y), m). not (eqb x.seq y.seq) && m) (zip (zip a.now b.now) ms.now) }
+{
+    a.iter()
+        .zip(b)
+        .zip(ms)
+        .position(|((x, y), m)| x.seq != y.seq && *m)
 }
 
 // The first of n processes that lends, or n.
-pub fn first_lender(n: usize, a: [Register; 8], b: [Register; 8], ms: [bool; 8]) -> usize
+pub fn first_lender(n: usize, a: &[Register; 8], b: &[Register; 8], ms: &[bool; 8]) -> usize
     requires { n ≤ 8 }
-    ensures { result ≡ first_below n (lends (differs ascending a b) ms) }
+    ensures { result ≡ first_below n (lends (differs ascending a.now b.now) ms.now) }
 {
-    let mut j = 0;
-    while j < n {
-        if a[j].seq != b[j].seq {
-            if ms[j] {
-                return j;
-            }
-        }
-        j += 1;
-    }
-    n
+    lender_in(&a[..n], &b[..n], &ms[..n]).unwrap_or(n)
 }
 
-// The marks after the first k processes were looked at: each that moved is marked.
-pub fn mark(k: usize, a: [Register; 8], b: [Register; 8], ms: [bool; 8]) -> [bool; 8]
+// Of the first k processes, each that moved is marked.
+pub fn mark(k: usize, a: &[Register; 8], b: &[Register; 8], ms: &mut [bool; 8])
     requires { k ≤ 8 }
-    ensures { result ≡ mark_from (differs ascending a b) k 0 ms }
+    ensures { ms.new ≡ mark_from (differs ascending a.now b.now) k 0 ms.old }
 {
-    let mut x = ms;
-    let mut j = 0;
-    while j < k {
+    for j in 0..k {
         if a[j].seq != b[j].seq {
-            x[j] = true;
+            ms[j] = true;
         }
-        j += 1;
     }
-    x
 }
 
 // The values of the first n registers of a collect, the other places 0.
-pub fn values(n: usize, rs: [Register; 8]) -> [Value; 8]
+pub fn values(n: usize, rs: &[Register; 8]) -> [Value; 8]
     requires { n ≤ 8 }
-    ensures { result ≡ over n (page_of ascending n rs) (replicate 8 zero_value) }
+    ensures { result ≡ over n (page_of ascending n rs.now) (replicate 8 zero_value) }
 {
-    let none = Value { word: 0, last: 0 };
-    let mut x = [none; 8];
-    let mut j = 0;
-    while j < n {
-        let r = rs[j];
-        let v = r.value;
-        x[j] = v;
-        j += 1;
+    let mut shown = [Value { word: 0, last: 0 }; 8];
+    for (j, r) in rs[..n].iter().enumerate() {
+        shown[j] = r.value;
     }
-    x
+    shown
 }

@@ -24,9 +24,10 @@ pub fn nothing_found() -> Find
 }
 
 // What the end of a double collect finds: its two collects, the end of the first, and the marks from earlier ones.
-fn decide(n: usize, end: u32, a: [Register; 8], b: [Register; 8], moved: [bool; 8]) -> Find
+fn decide(n: usize, end: u32, a: &[Register; 8], b: &[Register; 8], moved: &[bool; 8]) -> Find
     requires { n ≤ 8 }
-    ensures { result ≡ decision_find n end b (some (verdict n (differs ascending a b) (lends (differs ascending a b) moved))) }
+    ensures { result ≡ decision_find n end b.now
+        (some (verdict n (differs ascending a.now b.now) (lends (differs ascending a.now b.now) moved.now))) }
 {
     if collects::first_moved(n, a, b) == n {
         let page = Found {
@@ -69,13 +70,10 @@ pub fn find_page(a: Access, r: Register, p: Process) -> Find
     if pos + 1 != 2 * n {
         return nothing_found();
     }
-    let first = p.first;
-    let moved = p.moved;
     let mut second = p.second;
     let i = pos - n;
-    let old = second[i];
-    second[i] = collects::lay(n, r, old);
-    decide(n, p.first_end, first, second, moved)
+    second[i] = collects::lay(n, r, second[i]);
+    decide(n, p.first_end, &p.first, &second, &p.moved)
 }
 
 // The values of a page that a scan found, laid over the page list; any other turn leaves the list.

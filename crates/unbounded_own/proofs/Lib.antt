@@ -1,2 +1,2 @@
--- What only proofs need: a record cleared place by place.
+-- What only proofs need: a collect cleared.
 pub mod Clearing

@@ -1,4 +1,4 @@
--- A collect is cleared place by place, from the front (`clear-more`).
+-- A collect is cleared place by place, from the front (`clear_more`).
 use Prim.Native.Nat.{ℕ, ◌+◌, ◌<◌}
 use native.Mathlib.Omega.{arith}
 use mathlib.Core.Path.{◌≡◌, sym, ap, ◌∙◌}

@@ -221,13 +221,3 @@ module _ (a : Access) (r : Register) (p : Process) where
       with_second (set p.second place (laid a.n r (get_or p.second place no_register))) p ≡ collected_by a r p
   unfolding collected_by first_after second_after read_into
   collected_second e = rw e
-
-module _ (f : Find) (p : Process) where
-  -- the marks stored, or, where the search passed nobody, left
-  pub marked : with_marks (mark_from (differs ascending p.first p.second) f.passed 0 p.moved) p ≡ marked_by f p
-  unfolding marked_by
-  marked = refl
-
-  pub not_marked : 0 ≡ f.passed → p ≡ marked_by f p
-  unfolding marked_by
-  not_marked e = ap (λ m. with_marks (mark_from (differs ascending p.first p.second) m 0 p.moved) p) e

@@ -1,17 +1,14 @@
-// The record of a process by value: its parts, and what a call, a read or an answer stores in them. A table of records has them
-// stored one by one, in place; `read` gives the whole record, for a table that holds its records packed.
-ghost use Rattle.std.specs.Prelude.{◌≡◌, ◌≤◌, ◌<◌, ltb, replicate};
-ghost use Rattle.snapshot.specs.Lists.{over};
-ghost use Rattle.snapshot.specs.Values.{zero_value};
-ghost use Rattle.snapshot.specs.Marks.{none_moved};
-ghost use Rattle.unbounded.specs.Processes.{is_idle, zero_process};
+// The record of a process: one of zeros, and what a read or an answer stores in its parts. `read_in` stores them one by one, in place;
+// `read` gives the whole record, for a table that holds its records packed.
+ghost use Rattle.std.specs.Prelude.{◌≡◌, ◌≤◌, ◌<◌};
+ghost use Rattle.unbounded.specs.Processes.{zero_process};
 ghost use Rattle.unbounded.specs.Turns.{end_after};
 ghost use Rattle.unbounded_accesses.specs.Accesses.{Sound};
-ghost use Rattle.unbounded_turns.specs.Steps.{read_by, written_over};
+ghost use Rattle.unbounded_turns.specs.Steps.{read_by, collected_by, kept_by, marked_by, written_over};
 
 use snapshot::Value;
 use unbounded::{Process, Register, Task};
-use unbounded_accesses::Access;
+use unbounded_accesses::{Access, accesses};
 use unbounded_finds::collects;
 use unbounded_tasks::{Find, tasks};
 use values::over_values;
@@ -33,59 +30,6 @@ pub fn zero() -> Process
     }
 }
 
-// The task of a record.
-pub fn task_of(p: Process) -> Task
-    ensures { result ≡ p.task }
-{
-    p.task
-}
-
-// The register of a record.
-pub fn register_of(p: Process) -> Register
-    ensures { result ≡ p.register }
-{
-    p.register
-}
-
-// Whether a record has no task.
-pub fn rests(p: Process) -> bool
-    ensures { result ≡ is_idle p.task }
-{
-    let k = p.task;
-    tasks::is_idle(k)
-}
-
-// A kept view with its first n values set to 0, as a call and the end of a task leave it.
-pub fn emptied_view(n: usize, v: [Value; 8]) -> [Value; 8]
-    requires { n ≤ 8 }
-    ensures { result ≡ over n (replicate 8 zero_value) v }
-{
-    let unwritten = Value { word: 0, last: 0 };
-    let empty = [unwritten; 8];
-    over_values(n, empty, v)
-}
-
-// No process marked, as a call and the end of a task leave the marks.
-pub fn unmarked() -> [bool; 8]
-    ensures { result ≡ none_moved }
-{
-    [false; 8]
-}
-
-// Whether an access reads into the first collect.
-pub fn in_first(a: Access) -> bool
-    ensures { result ≡ ltb a.pos a.n }
-{
-    a.pos < a.n
-}
-
-// Whether the search of a find passed a process: then there may be one to mark.
-pub fn passes(f: Find) -> bool
-    ensures { result ≡ ltb 0 f.passed }
-{
-    0 < f.passed
-}
-
 // The number of the turn that ended the first collect.
 pub fn end_of(a: Access, end: u32) -> u32
     requires { Sound a }
@@ -94,33 +38,57 @@ pub fn end_of(a: Access, end: u32) -> u32
     if a.pos + 1 == a.n { a.now } else { end }
 }
 
-// The record of task k once r is read by a turn that found f.
+// Register r laid into its place of its collect.
+fn collect(p: &mut Process, a: Access, r: Register)
+    requires { Sound a }
+    ensures { p.new ≡ collected_by a r p.old }
+{
+    let i = accesses::place_of(a);
+    if a.pos < a.n {
+        p.first[i] = collects::lay(a.n, r, p.first[i]);
+    } else {
+        p.second[i] = collects::lay(a.n, r, p.second[i]);
+    }
+}
+
+// What task k keeps of f laid over the view.
+#[tactic(auto, unfolding(crate::specs::Steps::kept_by))]
+fn keep(p: &mut Process, a: Access, k: Task, f: Find)
+    requires { Sound a }
+    ensures { p.new ≡ kept_by a f k p.old }
+{
+    if let Some(page) = tasks::keeps(k, f) {
+        p.view = over_values(a.n, page.view, p.view);
+    }
+}
+
+// Each process marked that the search of f passed and that moved.
+#[tactic(auto, unfolding(crate::specs::Steps::marked_by))]
+fn mark(p: &mut Process, f: Find)
+    requires { f.passed ≤ 8 }
+    ensures { p.new ≡ marked_by f p.old }
+{
+    collects::mark(f.passed, &p.first, &p.second, &mut p.moved);
+}
+
+// The record once r is read by a turn of task k that found f, with the task that it had.
+pub fn read_in(p: &mut Process, a: Access, r: Register, k: Task, f: Find)
+    requires { Sound a × (f.passed ≤ 8) }
+    ensures { p.new ≡ read_by a r p.old f k }
+{
+    collect(p, a, r);
+    p.first_end = end_of(a, p.first_end);
+    keep(p, a, k, f);
+    mark(p, f);
+}
+
+// The same of a record by value.
 pub fn read(a: Access, r: Register, k: Task, f: Find, p: Process) -> Process
     requires { Sound a × (f.passed ≤ 8) }
     ensures { result ≡ read_by a r p f k }
 {
-    let n = a.n;
-    let pos = a.pos;
     let mut q = p;
-    q.first_end = end_of(a, q.first_end);
-    if pos < n {
-        let old = q.first[pos];
-        q.first[pos] = collects::lay(n, r, old);
-    } else {
-        let i = pos - n;
-        let old = q.second[i];
-        q.second[i] = collects::lay(n, r, old);
-    }
-    if let Some(page) = tasks::keeps(k, f) {
-        q.view = over_values(n, page.view, q.view);
-    }
-    if 0 < f.passed {
-        let first = q.first;
-        let second = q.second;
-        let marks = q.moved;
-        let moved = collects::mark(f.passed, first, second, marks);
-        q.moved = moved;
-    }
+    read_in(&mut q, a, r, k, f);
     q
 }
 
@@ -130,12 +98,8 @@ pub fn written_over(a: Access, k: Task, old: Register, view: [Value; 8]) -> Regi
     requires { (a.n ≤ 8) × (old.seq < 4294967295) }
     ensures { result ≡ written_over a old view k }
 {
-    let n = a.n;
     match k {
-        Task::Idle => old,
-        Task::Scan { turns: _ } => old,
-        Task::Update { word: _, turns: _ } => old,
-        Task::Ready { word, at, turns: _ } => {
+        Task::Ready { word, at, .. } => {
             let value = Value { word, last: a.now };
             let r = Register {
                 value,
@@ -143,7 +107,8 @@ pub fn written_over(a: Access, k: Task, old: Register, view: [Value; 8]) -> Regi
                 view,
                 at,
             };
-            collects::lay(n, r, old)
+            collects::lay(a.n, r, old)
         }
+        Task::Idle | Task::Scan { .. } | Task::Update { .. } => old,
     }
 }

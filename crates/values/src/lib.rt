@@ -14,11 +14,7 @@ pub fn over_values(n: usize, a: [Value; 8], b: [Value; 8]) -> [Value; 8]
     ensures { result ≡ over n a b }
 {
     let mut r = b;
-    let mut i = 0;
-    while i < n {
-        r[i] = a[i];
-        i += 1;
-    }
+    r[..n].copy_from_slice(&a[..n]);
     r
 }
 
@@ -27,11 +23,8 @@ pub fn lay_values(n: usize, values: [Value; 8], page: &mut [u32])
     requires { (n ≤ 8) × (page_places n ≤ length page.old) }
     ensures { page.new ≡ over (page_places n) (listed (take n values)) page.old }
 {
-    let mut j = 0;
-    while j < n {
-        let v = values[j];
+    for (j, v) in values[..n].iter().enumerate() {
         page[j] = v.word;
         page[n + j] = v.last;
-        j += 1;
     }
 }

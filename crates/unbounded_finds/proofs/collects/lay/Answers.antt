@@ -4,4 +4,4 @@ use Rattle.unbounded_finds.proofs.collects.lay.Goals as goal
 
 pub returns : goal.returns
 unfolding laid
-returns c = rw c.over_values-view.ensures
+returns c = rw c.over_values.ensures

@@ -2,7 +2,6 @@
 use mathlib.Core.Path.{sym, ap, ◌∙◌}
 use mathlib.Core.Bool.{Bool, true, cond}
 use mathlib.Core.List.{List}
-use native.Mathlib.Omega.{arith}
 use lib.ListN.{set}
 use Rattle.snapshot.specs.Marks.{with_moved, mark_from}
 use Rattle.unbounded.specs.Registers.{ascending, differs}
@@ -16,15 +15,13 @@ unfolding with_moved
 loop-j-preserved c =
     let a = c.args in
     let l = c.loop-j in
-    let f = differs ascending a.a a.b in
-    let y = mark_from f l.j 0 a.ms in
-    let more = marks_more f l.j a.ms in
-    let marked : Bool → List Bool = λ t. cond t (with_moved y l.j) y in (
-      omega arith,
-      elim c.if-a-j.branch [
-        | then-a-j w ↦ w.x-is ∙ ap (λ x. set x l.j true) l.invariant.1
-            ∙ sym (more ∙ ap marked (other_seqs ascending a.a a.b l.j w.if-a-j.true))
-        | else-a-j w ↦ w.x-is ∙ l.invariant.1
-            ∙ sym (more ∙ ap marked (same_seqs ascending a.a a.b l.j w.if-a-j.false))
-      ],
-    )
+    let f = differs ascending a.a.now a.b.now in
+    let y = mark_from f l.j 0 a.ms.now in
+    let more = marks_more f l.j a.ms.now in
+    let marked : Bool → List Bool = λ t. cond t (with_moved y l.j) y in
+    elim c.if-a-j.branch [
+      | then-a-j w ↦ w.ms-is ∙ ap (λ x. set x l.j true) l.invariant
+          ∙ sym (more ∙ ap marked (other_seqs ascending a.a.now a.b.now l.j w.if-a-j.true))
+      | else-a-j w ↦ w.ms-is ∙ l.invariant
+          ∙ sym (more ∙ ap marked (same_seqs ascending a.a.now a.b.now l.j w.if-a-j.false))
+    ]
