@@ -1,13 +1,14 @@
--- An array made place by place by a function of the place (`made`), and parts of so many words each that were unpacked so (`made_unpacked`).
+-- An array made place by place by a function of the place (`made`), or of another's elements (`mapped`), and parts of so many words
+-- each that were unpacked so (`made_unpacked`).
 use Prim.Native.Nat.{ℕ, zero, suc, ◌+◌, ◌*◌}
 use native.Mathlib.Numerals.{add-one}
 use native.Mathlib.Omega.{arith}
 use mathlib.Core.Path.{◌≡◌, refl, sym, ap, ap₂, subst, ◌∙◌}
-use mathlib.Core.List.{List, ◌∷◌}
+use mathlib.Core.List.{List, ◌∷◌, map}
 use lib.ListN.{length, drop}
 use lib.Seq.{drop-drop, drop-length, drop-cons}
 use denote.Param.Members.{Mut}
-use Rattle.std.specs.Array.{IsFromFnResult, IsFromFnResultFrom}
+use Rattle.std.specs.Array.{IsFromFnResult, IsFromFnResultFrom, MapsFrom, IsMapOf}
 use Rattle.std.specs.Iterator.{ActsAs}
 use Rattle.snapshot.specs.Lists.{each_from, each}
 use Rattle.packed.specs.Packing.{unpack_each}
@@ -26,6 +27,27 @@ module _ {F A : Type 0} (g : Mut F (ℕ × Unit {0}) A) (part : ℕ → A) (part
 module _ {F A : Type 0} {g : Mut F (ℕ × Unit {0}) A} {f : F} {parts : List A} {n : ℕ} where
   pub made : IsFromFnResult g f parts n → (part : ℕ → A) → ActsAs g f part → parts ≡ each n part
   made h part acts = made_from g part parts f acts 0 n (omega (arith, h.long)) h.each
+
+-- each of them from one of a list
+module _ {F A B : Type 0} (g : Mut F (A × Unit {0}) B) (h : A → B) (xs : List A) (ys : List B) where
+  mapped_from : (f : F) → ActsAs g f h → (i n : ℕ) → i + n ≡ length xs → i + n ≡ length ys → MapsFrom g f xs ys i n →
+      drop i ys ≡ map h (drop i xs)
+  mapped_from f acts i zero e d m =
+      ap (λ k. drop k ys) (omega (arith, d)) ∙ drop-length ys
+      ∙ sym (ap (map h) (ap (λ k. drop k xs) (omega (arith, e)) ∙ drop-length xs))
+  mapped_from f acts i (suc n) e d m =
+      let called = acts m.1 m.2 m.0 m.5 in
+      let rest = subst (λ k. MapsFrom g m.0 xs ys k n) (add-one i) m.6 in
+      drop-cons ys i m.2 (omega (arith, d))
+      ∙ ap₂ (λ y r. y ∷ r) (m.4.1 m.2 ∙ called.1)
+      (mapped_from f acts (suc i) n (omega (arith, e)) (omega (arith, d))
+      (subst (λ q. MapsFrom g q xs ys (suc i) n) called.0 rest))
+      ∙ ap (λ x. h x ∷ map h (drop (suc i) xs)) (sym (m.3.1 m.1))
+      ∙ sym (ap (map h) (drop-cons xs i m.1 (omega (arith, e))))
+
+pub mapped : {F A B : Type 0} {g : Mut F (A × Unit {0}) B} {f : F} {xs : List A} {ys : List B} {n : ℕ} →
+    IsMapOf g f xs ys n → length xs ≡ n → (h : A → B) → ActsAs g f h → ys ≡ map h xs
+mapped {F} {A} {B} {g} {f} {xs} {ys} m long h acts = mapped_from g h xs ys f acts 0 _ (omega (arith, long)) (omega (arith, m.long)) m.each
 
 parts_from : {A : Type 0} (unpack : List ℕ → A) (m i k a : ℕ) (ws : List ℕ) →
     each_from (λ i. unpack (drop (a + m * i) ws)) k i ≡ unpack_each unpack m k (drop (a + m * i) ws)

@@ -1,4 +1,4 @@
--- A record whose arrays have their eight places is unpacked as it was packed (`unpack-packed`).
+-- A record whose arrays have their eight places is unpacked as it was packed (`unpack_packed`).
 use Prim.Native.Nat.{ℕ, zero, suc, ◌+◌, ◌*◌, ◌<◌}
 use native.Mathlib.Nat.{mul-zero, not-suc-le-zero}
 use native.Mathlib.Omega.{arith}
