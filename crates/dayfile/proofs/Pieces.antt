@@ -14,6 +14,8 @@ use lib.Dec.{eqb}
 use borrow.Author.Tests.{eq-eqb, ne_eqb}
 use Rattle.snapshot.specs.Refusals.{number_of}
 use Rattle.snapshot.specs.declared.Refusal.{Refusal}
+use Rattle.snapshot.specs.declared.Refusal.TheVariants.{CountRange, ProcessRange, Busy, Idle, DayFull, LentSize, CutShort, UnknownKind, WrongLength}
+use Rattle.snapshot.specs.declared.Refusal.TheVariants.{OpenState, CannotArise, RoomShort, TableShort, NoPage, TooMany}
 use Rattle.snapshot.specs.declared.Request.{Request}
 use Rattle.dayfile.specs.declared.Reading.{Reading}
 use Rattle.dayfile.specs.declared.Reading.TheVariants.{Found, End, Refused}
@@ -46,6 +48,24 @@ refused_span bs k l = go (eqb (number_of k) 7)
     )
 
 -- as the code finds them: all of them after 7, else as many as are said, if they are there
+-- 7 is the number of this refusal alone
+pub cut_short : (k : Refusal) → number_of k ≡ 7 → k ≡ CutShort
+cut_short CountRange q = absurd (omega (arith, q))
+cut_short ProcessRange q = absurd (omega (arith, q))
+cut_short Busy q = absurd (omega (arith, q))
+cut_short Idle q = absurd (omega (arith, q))
+cut_short DayFull q = absurd (omega (arith, q))
+cut_short LentSize q = absurd (omega (arith, q))
+cut_short CutShort q = refl
+cut_short UnknownKind q = absurd (omega (arith, q))
+cut_short WrongLength q = absurd (omega (arith, q))
+cut_short OpenState q = absurd (omega (arith, q))
+cut_short CannotArise q = absurd (omega (arith, q))
+cut_short RoomShort q = absurd (omega (arith, q))
+cut_short TableShort q = absurd (omega (arith, q))
+cut_short NoPage q = absurd (omega (arith, q))
+cut_short TooMany q = absurd (omega (arith, q))
+
 pub rest_span : (bs : List ℕ) (k : Refusal) → number_of k ≡ 7 → length bs ≡ span_of bs (Refused k)
 unfolding span_of
 rest_span bs k q = sym (rw (eq-eqb (number_of k) 7 q))
