@@ -1,6 +1,6 @@
 -- Refusals as the code finds them, from the day, the size of the table and what was seen of the records: in two parts, since that
 -- a process has a record is known only once the first has passed. That they are the day's refusals is proved (proofs/Checked).
-use Rattle.std.specs.Prelude.{ℕ, ◌+◌, Bool, true, false, cond, not, ◌&&◌, ◌||◌, List, [], ◌∷◌, eqb, ltb}
+use Rattle.std.specs.Prelude.{ℕ, ◌+◌, Bool, true, false, cond, not, ◌&&◌, ◌||◌, List, [], ◌∷◌, eqb, ltb, Result, Ok, Err}
 use Rattle.std.proofs.Math.Option.{Option, none, some}
 use Rattle.snapshot.specs.Refusals.{Cause, first_cause, outside, is_past}
 use Rattle.snapshot.specs.Requests.{number_in}
@@ -13,14 +13,12 @@ use Rattle.snapshot.specs.declared.Refusal.{Refusal}
 use Rattle.snapshot.specs.declared.Refusal.TheVariants.{CountRange, ProcessRange, Busy, Idle, DayFull, LentSize}
 use Rattle.snapshot.specs.declared.Refusal.TheVariants.{OpenState, CannotArise}
 use Rattle.table_surveys.specs.declared.Survey.{Survey}
-use Rattle.admission.specs.declared.Check.{Check}
-use Rattle.admission.specs.declared.Check.TheVariants.{Passed, Refused}
 use Rattle.requests.specs.Requests.{is_call}
 
 -- the refusal that a check is, if it is one
-abbrev pub as_option : Check → Option Refusal
-as_option Passed = none
-as_option (Refused k) = some k
+abbrev pub as_option : Result (Unit {0}) Refusal → Option Refusal
+as_option (Ok passed) = none
+as_option (Err k) = some k
 
 -- whether there is a refusal
 abbrev pub is_refusal : Option Refusal → Bool

@@ -1,33 +1,17 @@
-// Refusals, in document 01's order. Each check is the list of causes that its definition is; `cause` is one of them over those
-// that come after it.
-ghost use Rattle.std.specs.Prelude.{◌≡◌, cond, ◌≤◌};
-ghost use Rattle.std.proofs.Math.Option.{some};
+// Refusals, in document 01's order: each check goes through the list of causes that its definition is.
+ghost use Rattle.std.specs.Prelude.{◌≡◌, ◌≤◌};
 ghost use Rattle.snapshot.specs.Refusals.{outside};
-ghost use Rattle.admission.specs.Checks.{as_option, is_refusal, is_short, most_for};
+ghost use Rattle.admission.specs.Checks.{as_option, is_short, most_for};
 ghost use Rattle.admission.specs.Checks.{opening_refusal, first_refusal, last_refusal};
 
-use crate::Check;
 use snapshot::{Day, Refusal, Request, number_in};
 use table_surveys::Survey;
-
-// A cause and those after it: its refusal where it holds, else theirs.
-fn cause(holds: bool, k: Refusal, rest: Check) -> Check
-    ensures { as_option result ≡ cond holds (some k) (as_option rest) }
-{
-    if holds {
-        return Check::Refused(k);
-    }
-    rest
-}
 
 // Whether k is outside low to high.
 fn is_outside(low: u32, high: u32, k: u32) -> bool
     ensures { result ≡ outside low high k }
 {
-    if k < low {
-        return true;
-    }
-    high < k
+    k < low || high < k
 }
 
 // The most turns of the task that a call sets.
@@ -36,13 +20,8 @@ fn most_for(s: Survey, x: Request) -> u32
     ensures upper_bound { result ≤ 131070 }
 {
     match x {
-        Request::Open(_) => s.scan_most as u32,
-        Request::Update {
-            process: _,
-            word: _,
-        } => s.scan_most as u32 + s.update_more as u32,
-        Request::Scan(_) => s.scan_most as u32,
-        Request::Turn(_) => s.scan_most as u32,
+        Request::Update { .. } => s.scan_most as u32 + s.update_more as u32,
+        _ => s.scan_most as u32,
     }
 }
 
@@ -50,71 +29,66 @@ fn most_for(s: Survey, x: Request) -> u32
 fn is_short(day: Day, words: usize, x: Request) -> bool
     ensures { result ≡ is_short day words x }
 {
-    if requests::is_call(x) {
-        return false;
-    }
-    words < 2 * (day.count as usize)
+    !requests::is_call(x) && words < 2 * (day.count as usize)
 }
 
 // The refusals of an opening for k processes: 10, 1, 6.
-pub fn opening_check(day: Day, size: usize, k: u32) -> Check
+pub fn opening_check(day: Day, size: usize, k: u32) -> Result<(), Refusal>
     ensures { as_option result ≡ opening_refusal day size k }
 {
-    cause(
-        day.count != 0,
-        Refusal::OpenState,
-        cause(
-            is_outside(1, 8, k),
-            Refusal::CountRange,
-            cause(size != k as usize, Refusal::LentSize, Check::Passed),
-        ),
-    )
+    if day.count != 0 {
+        return Err(Refusal::OpenState);
+    }
+    if is_outside(1, 8, k) {
+        return Err(Refusal::CountRange);
+    }
+    if size != k as usize {
+        return Err(Refusal::LentSize);
+    }
+    Ok(())
 }
 
 // The first refusals of a call or a turn, by the day, the size of the table, the survey and how many words the page list has:
 // 10, 6, 11, 2.
-pub fn first_check(day: Day, size: usize, s: Survey, x: Request, words: usize) -> Check
+pub fn first_check(
+    day: Day,
+    size: usize,
+    s: Survey,
+    x: Request,
+    words: usize,
+) -> Result<(), Refusal>
     ensures { as_option result ≡ first_refusal day size s x words }
 {
     if day.count == 0 {
-        return Check::Refused(Refusal::OpenState);
+        return Err(Refusal::OpenState);
     }
-    if size != day.count as usize {
-        return Check::Refused(Refusal::LentSize);
-    }
-    if is_short(day, words, x) {
-        return Check::Refused(Refusal::LentSize);
+    if size != day.count as usize || is_short(day, words, x) {
+        return Err(Refusal::LentSize);
     }
     if table_surveys::cannot_arise(day.count, s) {
-        return Check::Refused(Refusal::CannotArise);
+        return Err(Refusal::CannotArise);
     }
     if is_outside(1, day.count, number_in(x)) {
-        return Check::Refused(Refusal::ProcessRange);
+        return Err(Refusal::ProcessRange);
     }
-    Check::Passed
+    Ok(())
 }
 
 // The last, by whether the process is idle: 3 and 5 of a call, 4 of a turn.
-pub fn last_check(s: Survey, x: Request, idle: bool) -> Check
+pub fn last_check(s: Survey, x: Request, idle: bool) -> Result<(), Refusal>
     ensures { as_option result ≡ last_refusal s x idle }
 {
     if requests::is_call(x) {
-        let full = cause(
-            table_surveys::is_full(s.end, most_for(s, x)),
-            Refusal::DayFull,
-            Check::Passed,
-        );
-        return cause(!idle, Refusal::Busy, full);
+        if !idle {
+            return Err(Refusal::Busy);
+        }
+        if table_surveys::is_full(s.end, most_for(s, x)) {
+            return Err(Refusal::DayFull);
+        }
+        return Ok(());
     }
-    cause(idle, Refusal::Idle, Check::Passed)
-}
-
-// Whether a check is a refusal.
-pub fn is_refused(c: Check) -> bool
-    ensures { result ≡ is_refusal (as_option c) }
-{
-    match c {
-        Check::Passed => false,
-        Check::Refused(_) => true,
+    if idle {
+        return Err(Refusal::Idle);
     }
+    Ok(())
 }

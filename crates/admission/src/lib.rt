@@ -4,12 +4,3 @@
 
 pub mod checks;
 pub mod outcomes;
-
-use snapshot::Refusal;
-
-// Whether there is a refusal.
-#[derive(Clone, Copy)]
-pub enum Check {
-    Passed,
-    Refused(Refusal),
-}

@@ -2,7 +2,7 @@
 use Prim.Native.Nat.{ℕ, zero, suc, ◌+◌, ◌≤◌}
 use native.Mathlib.Omega.{arith}
 use native.Mathlib.Nat.{le_refl}
-use mathlib.Core.Path.{◌≡◌, refl, sym, subst}
+use mathlib.Core.Path.{◌≡◌, refl, subst}
 use mathlib.Core.Bool.{Bool, true, false, cond}
 use mathlib.Core.List.{List, [], ◌∷◌}
 use mathlib.Core.Option.{Option, none, some}
@@ -96,7 +96,7 @@ turn_page s d page = go (refusal_in s (turn_of d page)) refl
         subst (λ r. length r.page ≤ length page) (stepped_accepted s (turn_of d page) q)
         (turned_page ascending n (s.day.event + 1) read page p (page_long s.day s.table page (Turn d) tt tt q) p.task)
     go (some k) q =
-        subst (λ ws. length ws ≤ length page) (stepped_refused s (turn_of d page) (some k) (sym q) tt).2 (le_refl (length page))
+        subst (λ ws. length ws ≤ length page) (stepped_refused s (turn_of d page) k q).2 (le_refl (length page))
 
 asked_page_lem : (d : Day) (ps : List Process) (page : List ℕ) (x : Reading) → length (asked_page d ps page x) ≤ length page
 asked_page_lem d ps page (Found (Open k) next) = le_refl (length page)

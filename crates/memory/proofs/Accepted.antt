@@ -21,10 +21,10 @@ use Rattle.snapshot.specs.declared.Request.TheVariants.{Open, Update, Scan, Turn
 use Rattle.snapshot.specs.declared.Answer.TheVariants.{Called}
 use Rattle.snapshot.proofs.Lists.{some_of_false}
 use Rattle.requests.specs.Requests.{item_of, page_after, is_opening, is_call}
-use Rattle.admission.specs.Checks.{is_refusal, opening_refusal, first_refusal, last_refusal}
+use Rattle.admission.specs.Checks.{opening_refusal, first_refusal, last_refusal}
 use Rattle.admission.specs.Outcomes.{refused_outcome, accepted_outcome, opened_outcome}
 use Rattle.table_surveys.specs.declared.Survey.{Survey}
-use Rattle.admission.proofs.Checked.{opening_checks_lem, refused_some, Passed, Accepted, accepted_item, accepted_turn}
+use Rattle.admission.proofs.Checked.{opening_checks_lem, Passed, Accepted, accepted_item, accepted_turn}
 use Rattle.admission.proofs.Checked.{first_refuses, first_passes, last_refuses}
 use Rattle.unbounded.specs.declared.Register.{Register}
 use Rattle.unbounded.specs.declared.Process.{Process}
@@ -52,13 +52,10 @@ use Rattle.memory.specs.Turning.{TurnAt, read_at, found_at}
 abbrev pub Leaves : Result (State Process) → Outcome → List Process → List ℕ → Type 0
 Leaves r o ps page = (o ≡ outcome_of r) × (ps ≡ r.state.table) × (page ≡ r.page)
 
-pub stepped_refused : (s : State Process) (x : Item) (c : Option Refusal) → c ≡ refusal_in s x → T (is_refusal c) →
-    Leaves (stepped s x) (refused_outcome s.day c) s.table (page_lent x)
+pub stepped_refused : (s : State Process) (x : Item) (k : Refusal) → refusal_in s x ≡ some k →
+    Leaves (stepped s x) (refused_outcome s.day (some k)) s.table (page_lent x)
 unfolding Days.stepped step
-stepped_refused s x c e h =
-    let k = refused_some c h in
-    let q : refusal_in s x ≡ some k.0 = sym e ∙ k.1 in
-    rw (k.1, q) (refl, refl, refl)
+stepped_refused s x k e = rw e (refl, refl, refl)
 
 pub stepped_accepted : (s : State Process) (x : Item) → refusal_in s x ≡ none → accepted_in s x ≡ stepped s x
 unfolding Days.stepped step
@@ -133,13 +130,11 @@ module _ (day : Day) (ps : List Process) where
     abbrev first : Option Refusal
     first = first_refusal day (length ps) surveyed x words
 
-    pub plan_refuses : (c : Option Refusal) → c ≡ first → T (is_refusal c) → (page : List ℕ) → length page ≡ words →
-        c ≡ refusal_in s (item_of page x)
-    plan_refuses c e h page q =
-        let k = refused_some c h in
-        k.1
-        ∙ sym (first_refuses (figure3 ascending) (λ n. refl) s page x item surveyed (surveyed_table s) k.0
-        (ap (first_refusal day (length ps) surveyed x) q ∙ sym e ∙ k.1))
+    pub plan_refuses : (k : Refusal) → first ≡ some k → (page : List ℕ) → length page ≡ words →
+        some k ≡ refusal_in s (item_of page x)
+    plan_refuses k e page q =
+        sym (first_refuses (figure3 ascending) (λ n. refl) s page x item surveyed (surveyed_table s) k
+        (ap (first_refusal day (length ps) surveyed x) q ∙ e))
 
     module _ (passed : first ≡ none) where
       suits : Passed (figure3 ascending) s (replicate words 0) x

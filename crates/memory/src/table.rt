@@ -17,8 +17,8 @@ ghost use Rattle.memory.specs.Tables.{state_of, outcome_of, refusal_in, accepted
 ghost use Rattle.memory.specs.Turning.{TurnAt, found_at, read_at};
 
 use crate::elements;
-use admission::{Check, checks, outcomes};
-use snapshot::{Day, Outcome, Request};
+use admission::{checks, outcomes};
+use snapshot::{Day, Outcome, Refusal, Request};
 use unbounded::{Process, Task};
 use unbounded_accesses::accesses;
 use unbounded_finds::{collects, finds};
@@ -35,16 +35,13 @@ pub fn blank() -> [Process; 8]
 }
 
 // The refusal of a call or a turn, if any, where its page list has that many words.
-fn plan(day: Day, ps: &[Process], x: Request, words: usize) -> Check
+fn plan(day: Day, ps: &[Process], x: Request, words: usize) -> Result<(), Refusal>
     requires { T (not (is_opening x)) }
     ensures { RefusedBy day ps.now x words (as_option result) }
 {
     let before = surveys::survey_of(day);
     let s = elements::survey(ps, before);
-    let c = checks::first_check(day, ps.len(), s, x, words);
-    if checks::is_refused(c) {
-        return c;
-    }
+    checks::first_check(day, ps.len(), s, x, words)?;
     let i = requests::index_in(x);
     let idle = elements::rests_at(ps, i);
     checks::last_check(s, x, idle)
@@ -111,9 +108,8 @@ pub fn open(day: Day, ps: &mut [Process], k: u32) -> Outcome
     ensures value { result ≡ outcome_of (stepped (state_of day ps.old) (open_for k)) }
     ensures ps_after { ps.new ≡ (stepped (state_of day ps.old) (open_for k)).state.table }
 {
-    let c = checks::opening_check(day, ps.len(), k);
-    if checks::is_refused(c) {
-        return outcomes::refused(day, c);
+    if let Err(refusal) = checks::opening_check(day, ps.len(), k) {
+        return outcomes::refused(day, refusal);
     }
     elements::clear_all(ps);
     outcomes::opened(k)
@@ -129,9 +125,8 @@ pub fn step(day: Day, ps: &mut [Process], x: Request, page: &mut [u32]) -> Outco
     if requests::is_opening(x) {
         return open(day, ps, snapshot::number_in(x));
     }
-    let c = plan(day, ps, x, page.len());
-    if checks::is_refused(c) {
-        return outcomes::refused(day, c);
+    if let Err(refusal) = plan(day, ps, x, page.len()) {
+        return outcomes::refused(day, refusal);
     }
     if requests::is_call(x) {
         return call(day, ps, x);
@@ -145,9 +140,8 @@ fn ask_call(day: Day, ps: &mut [Process], x: Request) -> Outcome
     ensures value { result ≡ outcome_of (stepped (state_of day ps.old) (item_of [] x)) }
     ensures ps_after { ps.new ≡ (stepped (state_of day ps.old) (item_of [] x)).state.table }
 {
-    let c = plan(day, ps, x, requests::no_words());
-    if checks::is_refused(c) {
-        return outcomes::refused(day, c);
+    if let Err(refusal) = plan(day, ps, x, 0) {
+        return outcomes::refused(day, refusal);
     }
     call(day, ps, x)
 }
@@ -157,7 +151,7 @@ pub fn update_call(day: Day, ps: &mut [Process], d: u32, word: u32) -> Outcome
     ensures value { result ≡ outcome_of (stepped (state_of day ps.old) (update_call d word)) }
     ensures ps_after { ps.new ≡ (stepped (state_of day ps.old) (update_call d word)).state.table }
 {
-    ask_call(day, ps, requests::update(d, word))
+    ask_call(day, ps, Request::Update { process: d, word })
 }
 
 // A scan call (document 01: a page call) of process d.
@@ -165,7 +159,7 @@ pub fn scan_call(day: Day, ps: &mut [Process], d: u32) -> Outcome
     ensures value { result ≡ outcome_of (stepped (state_of day ps.old) (scan_call d)) }
     ensures ps_after { ps.new ≡ (stepped (state_of day ps.old) (scan_call d)).state.table }
 {
-    ask_call(day, ps, requests::scan(d))
+    ask_call(day, ps, Request::Scan(d))
 }
 
 // A turn of process d, which lends a page list.
@@ -174,5 +168,5 @@ pub fn turn(day: Day, ps: &mut [Process], d: u32, page: &mut [u32]) -> Outcome
     ensures ps_after { ps.new ≡ (stepped (state_of day ps.old) (turn_of d page.old)).state.table }
     ensures page_after { page.new ≡ (stepped (state_of day ps.old) (turn_of d page.old)).page }
 {
-    step(day, ps, requests::turn(d), page)
+    step(day, ps, Request::Turn(d), page)
 }

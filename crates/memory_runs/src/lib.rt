@@ -54,14 +54,17 @@ pub fn run(
         (run_on day ps.old list.now answers.old pages.old).pages }
 {
     let values = day.count;
-    let plan = runs::planned(
+    let plan = match runs::planned(
         day,
         ps.len(),
         values,
         list.len(),
         answers.len(),
         pages.len(),
-    );
+    ) {
+        Ok(plan) => plan,
+        Err(refusal) => return runs::refused(day, refusal),
+    };
     let mut at = runs::begin(day);
     while runs::goes(at, plan) {
         let d = runs::process_at(list, at);
@@ -69,5 +72,5 @@ pub fn run(
         put(answers, at, o);
         at = runs::next(at, plan, o.day);
     }
-    runs::end(at, plan)
+    runs::end(at)
 }

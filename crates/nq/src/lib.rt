@@ -26,20 +26,22 @@ pub struct MendingNumbers {
 }
 
 // What mending a day file comes to.
-fn mending_of(m: Mending) -> MendingNumbers
-    ensures { result ≡ mending_numbers m }
-{
-    match m {
-        Mending::Written { kept, drops } => MendingNumbers {
-            kept: kept as u64,
-            drops: drops as u64,
-            refusal: 0,
-        },
-        Mending::Refused(k) => MendingNumbers {
-            kept: 0,
-            drops: 0,
-            refusal: snapshot::number(k) as u64,
-        },
+impl From<Mending> for MendingNumbers {
+    ghost from_gives = { λ m n. n ≡ mending_numbers m };
+
+    fn from(m: Mending) -> MendingNumbers {
+        match m {
+            Mending::Written { kept, drops } => MendingNumbers {
+                kept: kept as u64,
+                drops: drops as u64,
+                refusal: 0,
+            },
+            Mending::Refused(k) => MendingNumbers {
+                kept: 0,
+                drops: 0,
+                refusal: u32::from(k) as u64,
+            },
+        }
     }
 }
 
@@ -149,7 +151,7 @@ pub extern "C" fn nq_run(
     ensures pages_after { pages.new ≡ (run_in (day_with count event) table.old processes.now
         replies.old pages.old).pages }
 {
-    numbers::run_reply(packed_runs::run(Day { count, event }, table, processes, replies, pages))
+    ReplyNumbers::from(packed_runs::run(Day { count, event }, table, processes, replies, pages))
 }
 
 // The record that a day file begins with, or how it ends.
@@ -168,7 +170,7 @@ pub extern "C" fn nq_mend(bytes: &[u8], room: &mut [u8], rows: &mut [[u64; 3]]) 
     ensures room_after { room.new ≡ kept_with bytes.now room.old (length rows.old) }
     ensures rows_after { rows.new ≡ rows_with bytes.now (length room.old) rows.old }
 {
-    mending_of(mender::mend(bytes, room, rows))
+    MendingNumbers::from(mender::mend(bytes, room, rows))
 }
 
 // The version of what crosses: the header and the library of a program are of one.

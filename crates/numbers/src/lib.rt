@@ -1,7 +1,7 @@
 // What crosses to other languages, by numbers: requests, replies and the records of day files.
 #![tactic(auto)]
 
-ghost use Rattle.std.specs.Prelude.{◌≡◌, []};
+ghost use Rattle.std.specs.Prelude.{◌≡◌, [], cond, Some, None};
 ghost use Rattle.snapshot.specs.Replies.{reply_of};
 ghost use Rattle.admission.specs.Checks.{as_option};
 ghost use Rattle.dayfile.specs.Reader.{reader_reply};
@@ -9,7 +9,6 @@ ghost use Rattle.numbers.specs.Requests.{request_numbered, is_kind};
 ghost use Rattle.numbers.specs.Replies.{day_with, reply_with, reply_numbers, run_numbers, reply_words};
 ghost use Rattle.numbers.specs.Replies.{Short, record_with, request_numbers, record_numbers};
 
-use admission::Check;
 use dayfile::Reading;
 use runs::RunOutcome;
 use snapshot::{Answer, Day, Outcome, Request};
@@ -55,19 +54,27 @@ pub fn reply(day: Day, answer: u32, refusal: u32, lender: u32, at: u32, turns: u
 }
 
 // The reply that an outcome is.
+impl From<Outcome> for ReplyNumbers {
+    ghost from_gives = { λ o r. r ≡ reply_numbers o.day (reply_of [] o.answer) };
+
+    fn from(o: Outcome) -> ReplyNumbers {
+        let day = o.day;
+        match o.answer {
+            Answer::Refused(k) => reply(day, 0, u32::from(k), 0, 0, 0),
+            Answer::Opened => reply(day, 1, 0, 0, 0, 0),
+            Answer::Called => reply(day, 2, 0, 0, 0, 0),
+            Answer::Read => reply(day, 3, 0, 0, 0, 0),
+            Answer::Page { lender, at, turns } => reply(day, 4, 0, lender, at, turns),
+            Answer::Written { turns } => reply(day, 5, 0, 0, 0, turns),
+        }
+    }
+}
+
+// The same as a function, for those who have not taken `ReplyNumbers::from` yet.
 pub fn reply_of(o: Outcome) -> ReplyNumbers
     ensures { result ≡ reply_numbers o.day (reply_of [] o.answer) }
 {
-    let day = o.day;
-    let answer = o.answer;
-    match answer {
-        Answer::Refused(k) => reply(day, 0, snapshot::number(k), 0, 0, 0),
-        Answer::Opened => reply(day, 1, 0, 0, 0, 0),
-        Answer::Called => reply(day, 2, 0, 0, 0, 0),
-        Answer::Read => reply(day, 3, 0, 0, 0, 0),
-        Answer::Page { lender, at, turns } => reply(day, 4, 0, lender, at, turns),
-        Answer::Written { turns } => reply(day, 5, 0, 0, 0, turns),
-    }
+    ReplyNumbers::from(o)
 }
 
 // The day after a request, by its reply.
@@ -81,14 +88,14 @@ pub fn day_in(r: ReplyNumbers) -> Day
 }
 
 // The reply to a run: its answer is 6, or 0 where the run itself was refused.
-pub fn run_reply(o: RunOutcome) -> ReplyNumbers
-    ensures { result ≡ run_numbers o.day (as_option o.check) }
-{
-    let day = o.day;
-    let check = o.check;
-    match check {
-        Check::Passed => reply(day, 6, 0, 0, 0, 0),
-        Check::Refused(k) => reply(day, 0, snapshot::number(k), 0, 0, 0),
+impl From<RunOutcome> for ReplyNumbers {
+    ghost from_gives = { λ o r. r ≡ run_numbers o.day (as_option o.check) };
+
+    fn from(o: RunOutcome) -> ReplyNumbers {
+        match o.check {
+            Ok(()) => reply(o.day, 6, 0, 0, 0, 0),
+            Err(k) => reply(o.day, 0, u32::from(k), 0, 0, 0),
+        }
     }
 }
 
@@ -101,33 +108,17 @@ pub fn words_of(r: ReplyNumbers) -> [u32; 7]
     ]
 }
 
-// A request by its kind.
-pub fn request_of(kind: u32, process: u32, word: u32) -> Request
-    ensures { result ≡ request_numbered kind process word }
+// A request by its kind, where there is one of that kind.
+pub fn numbered(kind: u32, process: u32, word: u32) -> Option<Request>
+    ensures { result ≡ cond (is_kind kind) (Some (request_numbered kind process word)) None }
 {
-    if kind == 1 {
-        return Request::Open(process);
+    match kind {
+        1 => Some(Request::Open(process)),
+        2 => Some(Request::Update { process, word }),
+        3 => Some(Request::Scan(process)),
+        4 => Some(Request::Turn(process)),
+        _ => None,
     }
-    if kind == 2 {
-        return Request::Update { process, word };
-    }
-    if kind == 3 {
-        return Request::Scan(process);
-    }
-    Request::Turn(process)
-}
-
-// Whether there is a request of that kind.
-pub fn is_kind(kind: u32) -> bool
-    ensures { result ≡ is_kind kind }
-{
-    if kind < 1 {
-        return false;
-    }
-    if 4 < kind {
-        return false;
-    }
-    true
 }
 
 fn record(kind: u32, process: u32, word: u32, next: u32) -> RecordNumbers
@@ -153,7 +144,8 @@ pub fn request_numbers(x: Request, next: u32) -> RecordNumbers
     }
 }
 
-// The record that was found, or how the file ends.
+// The record that was found, or how the file ends. It is no `From`, which would take every reading: the clause `Short`, by which the
+// length fits its number, stands on this function.
 pub fn record_of(x: Reading) -> RecordNumbers
     requires { Short x }
     ensures { result ≡ record_numbers (reader_reply x) }
@@ -162,7 +154,7 @@ pub fn record_of(x: Reading) -> RecordNumbers
         Reading::Found { record, next } => request_numbers(record, next as u32),
         Reading::End => record(0, 0, 0, 0),
         Reading::Refused(k) => RecordNumbers {
-            refusal: snapshot::number(k),
+            refusal: u32::from(k),
             kind: 0,
             process: 0,
             word: 0,

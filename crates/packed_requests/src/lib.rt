@@ -21,13 +21,8 @@ pub fn asked(
     ensures table_after { table.new ≡ table_in day table.old kind process word page.old }
     ensures page_after { page.new ≡ page_in day table.old kind process word page.old }
 {
-    if numbers::is_kind(kind) {
-        return numbers::reply_of(packed_table::step(
-            day,
-            table,
-            numbers::request_of(kind, process, word),
-            page,
-        ));
+    match numbers::numbered(kind, process, word) {
+        Some(x) => ReplyNumbers::from(packed_table::step(day, table, x, page)),
+        None => numbers::reply(day, 0, u32::from(Refusal::UnknownKind), 0, 0, 0),
     }
-    numbers::reply(day, 0, snapshot::number(Refusal::UnknownKind), 0, 0, 0)
 }

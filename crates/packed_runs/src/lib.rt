@@ -54,14 +54,17 @@ pub fn run(
     ensures pages_after { pages.new ≡
         (run_in day t.old list.now replies.old pages.old).pages }
 {
-    let plan = runs::planned(
+    let plan = match runs::planned(
         day,
         t.len(),
         day.count,
         list.len(),
         replies.len(),
         pages.len(),
-    );
+    ) {
+        Ok(plan) => plan,
+        Err(refusal) => return runs::refused(day, refusal),
+    };
     let mut at = runs::begin(day);
     while runs::goes(at, plan) {
         let d = runs::process_at(list, at);
@@ -69,5 +72,5 @@ pub fn run(
         put(replies, at, r);
         at = runs::next(at, plan, numbers::day_in(r));
     }
-    runs::end(at, plan)
+    runs::end(at)
 }

@@ -1,5 +1,5 @@
 -- Requests on words chain as the step of the definitions does: the words after a request are the records that it leaves
--- (`unpacked-after`), and every row has its 369 words again (`long_after`).
+-- (`unpacked_after`), and every row has its 369 words again (`long_after`).
 use Prim.Native.Nat.{ℕ, zero, suc, ◌+◌, ◌-◌, ◌≤◌, ◌<◌}
 use native.Mathlib.Nat.{not-suc-le-zero}
 use native.Mathlib.Omega.{arith}

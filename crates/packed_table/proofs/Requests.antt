@@ -3,7 +3,7 @@ use Prim.Native.Nat.{ℕ, ◌+◌, ◌-◌}
 use mathlib.Core.Path.{◌≡◌, refl, sym, ap, ◌∙◌}
 use mathlib.Core.Bool.{Bool, true, false, not, cond}
 use mathlib.Core.List.{List, [], ◌∷◌, map, foldl}
-use mathlib.Core.Option.{Option, none, some}
+use mathlib.Core.Option.{Option, none}
 use lib.Dec.{T}
 use lib.ListN.{length, get_or}
 use Rattle.snapshot.specs.Requests.{number_in}
@@ -15,8 +15,7 @@ use Rattle.snapshot.specs.declared.Request.TheVariants.{Open, Update, Scan, Turn
 use Rattle.snapshot.specs.declared.Refusal.{Refusal}
 use Rattle.snapshot.specs.declared.Answer.TheVariants.{Page, Read}
 use Rattle.requests.specs.Requests.{item_of, is_opening, is_call}
-use Rattle.admission.specs.Checks.{is_refusal, first_refusal}
-use Rattle.admission.specs.Outcomes.{refused_outcome}
+use Rattle.admission.specs.Checks.{first_refusal}
 use Rattle.table_surveys.specs.declared.Survey.{Survey}
 use Rattle.unbounded.specs.declared.Process.{Process}
 use Rattle.unbounded.specs.declared.Task.{Task}
@@ -55,10 +54,6 @@ after_refused t x r e = ap (λ b. cond b t (packed_by t x r.state.table)) (sym e
 pub after_accepted : (t : List (List ℕ)) (x : Request) (r : Result (State Process)) → is_refused r.answer ≡ false →
     packed_by t x r.state.table ≡ table_after t x r
 after_accepted t x r e = ap (λ b. cond b t (packed_by t x r.state.table)) (sym e)
-
-pub refusal_refused : (day : Day) (c : Option Refusal) → T (is_refusal c) → is_refused (refused_outcome day c).answer ≡ true
-refusal_refused day none h = absurd h
-refusal_refused day (some k) h = refl
 
 either_accepted : (b : Bool) (lender at turns : ℕ) → is_refused (cond b (Page lender at turns) Read) ≡ false
 either_accepted true lender at turns = refl

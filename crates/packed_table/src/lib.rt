@@ -11,21 +11,18 @@ ghost use Rattle.memory.specs.Tables.{state_of, outcome_of, RefusedBy};
 ghost use Rattle.packed_rows.specs.Rows.{unpacked_all};
 ghost use Rattle.packed_table.specs.Tables.{table_after, stepped_in};
 
-use admission::{Check, checks, outcomes};
-use snapshot::{Day, Outcome, Request};
+use admission::{checks, outcomes};
+use snapshot::{Day, Outcome, Refusal, Request};
 use unbounded_surveys::surveys;
 use unbounded_tasks::tasks;
 
 // The refusal of a call or a turn, if any, where its page list has that many words.
-fn plan(day: Day, t: &[[u32; 369]], x: Request, words: usize) -> Check
+fn plan(day: Day, t: &[[u32; 369]], x: Request, words: usize) -> Result<(), Refusal>
     requires { T (not (is_opening x)) }
     ensures { RefusedBy day (unpacked_all t.now) x words (as_option result) }
 {
     let s = packed_rows::survey(t, surveys::survey_of(day));
-    let c = checks::first_check(day, t.len(), s, x, words);
-    if checks::is_refused(c) {
-        return c;
-    }
+    checks::first_check(day, t.len(), s, x, words)?;
     let i = requests::index_in(x);
     let k = packed::task_in(&t[i]);
     checks::last_check(s, x, tasks::is_idle(k))
@@ -37,9 +34,8 @@ fn open(day: Day, t: &mut [[u32; 369]], k: u32) -> Outcome
     ensures t_after { t.new ≡
         table_after t.old (Open k) (stepped (state_of day (unpacked_all t.old)) (open_for k)) }
 {
-    let c = checks::opening_check(day, t.len(), k);
-    if checks::is_refused(c) {
-        return outcomes::refused(day, c);
+    if let Err(refusal) = checks::opening_check(day, t.len(), k) {
+        return outcomes::refused(day, refusal);
     }
     packed_rows::clear_all(t);
     outcomes::opened(k)
@@ -54,9 +50,8 @@ pub fn step(day: Day, t: &mut [[u32; 369]], x: Request, page: &mut [u32]) -> Out
     if requests::is_opening(x) {
         return open(day, t, snapshot::number_in(x));
     }
-    let c = plan(day, t, x, page.len());
-    if checks::is_refused(c) {
-        return outcomes::refused(day, c);
+    if let Err(refusal) = plan(day, t, x, page.len()) {
+        return outcomes::refused(day, refusal);
     }
     if requests::is_call(x) {
         return packed_accepted::call(day, t, x);

@@ -12,48 +12,13 @@ use snapshot::Request;
 pub fn is_opening(x: Request) -> bool
     ensures { result ≡ is_opening x }
 {
-    match x {
-        Request::Open(_) => true,
-        Request::Update {
-            process: _,
-            word: _,
-        } => false,
-        Request::Scan(_) => false,
-        Request::Turn(_) => false,
-    }
+    matches!(x, Request::Open(_))
 }
 
 pub fn is_call(x: Request) -> bool
     ensures { result ≡ is_call x }
 {
-    match x {
-        Request::Open(_) => false,
-        Request::Update {
-            process: _,
-            word: _,
-        } => true,
-        Request::Scan(_) => true,
-        Request::Turn(_) => false,
-    }
-}
-
-// An update call, a scan call and a turn.
-pub fn update(process: u32, word: u32) -> Request
-    ensures { result ≡ Request.Update process word }
-{
-    Request::Update { process, word }
-}
-
-pub fn scan(process: u32) -> Request
-    ensures { result ≡ Request.Scan process }
-{
-    Request::Scan(process)
-}
-
-pub fn turn(process: u32) -> Request
-    ensures { result ≡ Request.Turn process }
-{
-    Request::Turn(process)
+    matches!(x, Request::Update { .. } | Request::Scan(_))
 }
 
 // The index, in the table, of the record of a request's process.
@@ -62,11 +27,4 @@ pub fn index_in(x: Request) -> usize
     ensures { result ≡ number_in x - 1 }
 {
     (snapshot::number_in(x) - 1) as usize
-}
-
-// The size of the page list that a call lends: it has no words.
-pub fn no_words() -> usize
-    ensures { result ≡ 0 }
-{
-    0
 }

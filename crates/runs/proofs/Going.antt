@@ -2,19 +2,18 @@
 use Prim.Native.Nat.{ℕ, ◌+◌, ◌*◌, ◌≤◌, ◌<◌}
 use native.Mathlib.Nat.{zero-mul, mul-le-mul_right}
 use native.Mathlib.Omega.{arith}
-use mathlib.Core.Path.{◌≡◌, refl, sym, ap, ◌∙◌, subst}
+use mathlib.Core.Path.{◌≡◌, refl, sym, ◌∙◌, subst}
 use mathlib.Core.List.{List}
-use mathlib.Core.Option.{Option, none}
+use mathlib.Core.Option.{none}
 use lib.ListN.{length, get_or, set, take, drop, length-set}
 use lib.Seq.{length-take-le, get_or-take}
 use Rattle.snapshot.specs.declared.Day.{Day}
-use Rattle.snapshot.specs.declared.Refusal.{Refusal}
 use Rattle.snapshot.specs.Demand.{Result}
-use Rattle.snapshot.specs.Runs.{RunResult, run_unless}
+use Rattle.snapshot.specs.Runs.{RunResult, turns_from}
 use Rattle.runs.specs.declared.Plan.{Plan}
 use Rattle.runs.specs.declared.Reached.{Reached}
-use Rattle.runs.specs.Plans.{plan_of, reached_at, laid_from}
-use Rattle.runs.proofs.Onward.{with_refusal, onward, run_planned, onward_next, onward_last}
+use Rattle.runs.specs.Plans.{plan_with, reached_at, laid_from}
+use Rattle.runs.proofs.Onward.{onward, run_planned, onward_next, onward_last}
 use Rattle.runs.proofs.Fitting.{Fitting}
 
 module _ {S A : Type 0} (give : S → ℕ → List ℕ → Result S) (told : Result S → A) (plan : Plan) (list : List ℕ) where
@@ -83,22 +82,21 @@ module _ {S A : Type 0} (give : S → ℕ → List ℕ → Result S) (told : Res
         ∙ g.goes_to
 
 -- a run from its beginning to its end
-module _ {S A : Type 0} (give : S → ℕ → List ℕ → Result S) (told : Result S → A) (page : ℕ) (k : Option Refusal)
+module _ {S A : Type 0} (give : S → ℕ → List ℕ → Result S) (told : Result S → A) (page : ℕ)
     (s : S) (list : List ℕ) (answers : List A) (pages : List ℕ) where
   abbrev pub plan_here : Plan
-  plan_here = plan_of page (length list) k
+  plan_here = plan_with (length list) page
 
   abbrev pub whole_run : RunResult S A
-  whole_run = onward give told plan_here.page (take plan_here.turns list) 0 s answers pages
+  whole_run = onward give told page (take (length list) list) 0 s answers pages
 
-  pub run_begins : Fitting page plan_here.turns (length list) (length answers) (length pages) → (day : Day) →
+  pub run_begins : Fitting page (length list) (length list) (length answers) (length pages) → (day : Day) →
       Going give told plan_here list whole_run (reached_at day 0 0) s answers pages
   run_begins f day =
       record { goes_to = refl; words = sym (zero-mul page); few = omega arith; fits = f }
 
   pub run_ends : (at : Reached) (s' : S) (answers' : List A) (pages' : List ℕ) →
-      Going give told plan_here list whole_run at s' answers' pages' → plan_here.turns ≤ at.turns →
-      record { state = s'; refusal = k; answers = answers'; pages = pages' } ≡ run_unless give told page k s list answers pages
+      Going give told plan_here list whole_run at s' answers' pages' → length list ≤ at.turns →
+      record { state = s'; refusal = none; answers = answers'; pages = pages' } ≡ turns_from give told page s list answers pages
   run_ends at s' answers' pages' g l =
-      ap (with_refusal k) (going_last give told plan_here list whole_run at s' answers' pages' g l)
-      ∙ sym (run_planned give told page k s list answers pages)
+      going_last give told plan_here list whole_run at s' answers' pages' g l ∙ sym (run_planned give told page s list answers pages)

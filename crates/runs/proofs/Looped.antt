@@ -1,11 +1,13 @@
 -- The loop of a run on a day and a table, for every method: what it carries at first, after a turn, and at its end.
 use Prim.Native.Nat.{ℕ, ◌+◌, ◌≤◌, ◌<◌}
-use mathlib.Core.Path.{◌≡◌, sym, ap, ◌∙◌, subst}
+use mathlib.Core.Path.{◌≡◌, refl, sym, ap, ◌∙◌, subst}
 use mathlib.Core.Bool.{Bool, true, false}
 use mathlib.Core.List.{List}
-use mathlib.Core.Option.{Option}
+use mathlib.Core.Option.{Option, none}
 use lib.Dec.{ltb}
 use lib.ListN.{length, get_or, set, take, drop}
+use Rattle.std.specs.Prelude as Result
+use Rattle.std.specs.Prelude.{Ok, Err}
 use borrow.Author.Tests.{ltb-true, ltb-false}
 use Rattle.snapshot.specs.declared.Day.{Day}
 use Rattle.snapshot.specs.declared.Refusal.{Refusal}
@@ -15,9 +17,9 @@ use Rattle.snapshot.specs.Days.{State}
 use Rattle.snapshot.specs.Runs.{RunResult, run_causes, run_unless}
 use Rattle.runs.specs.declared.Plan.{Plan}
 use Rattle.runs.specs.declared.Reached.{Reached}
-use Rattle.runs.specs.Plans.{plan_of, reached_at, outcome_at, run_outcome_of, laid_from}
+use Rattle.runs.specs.Plans.{plan_with, plan_of, reached_at, outcome_at, run_outcome_of, laid_from}
 use Rattle.runs.proofs.Onward.{onward}
-use Rattle.runs.proofs.Fitting.{plan_fits}
+use Rattle.runs.proofs.Fitting.{planned_given, planned_refused, plan_fits}
 use Rattle.runs.proofs.Going.{Going, next_inside, going_next, run_begins, run_ends}
 
 -- what `goes` says: there is another turn, or none
@@ -67,32 +69,42 @@ module _ {P A : Type 0} (give : State P → ℕ → List ℕ → Result (State P
     abbrev refused : Option Refusal
     refused = first_cause (run_causes d.count (length t) page (length list) (length answers) (length pages))
 
-    abbrev pub plan : Plan
+    abbrev pub plan : Result.Result Plan Refusal
     plan = plan_of page (length list) refused
 
-    module _ (p : Plan) (at₀ : Reached) (planned : p ≡ plan) (begun : at₀ ≡ reached_at d 0 0) where
+    -- what the contract says, of a run that is refused
+    pub goes_refused : (k : Refusal) → plan ≡ Err k →
+        let r = run_unless give told page refused (on d t) list answers pages in
+        (outcome_at d (Err k) ≡ run_outcome_of r) × (t ≡ r.state.table) × (answers ≡ r.answers) × (pages ≡ r.pages)
+    goes_refused k e = rw (planned_refused page (length list) refused k e) (refl, refl, refl, refl)
+
+    module _ (p : Plan) (at₀ : Reached) (planned : plan ≡ Ok p) (begun : at₀ ≡ reached_at d 0 0) where
       abbrev whole : RunResult (State P) A
       whole = whole_from p list at₀.day t answers pages
+
+      given : (refused ≡ none) × (p ≡ plan_with (length list) page)
+      given = planned_given page (length list) refused p planned
 
       pub goes_first : Goes p list whole at₀ t answers pages
       goes_first =
           subst (λ (z : Plan × Reached). Goes z.0 list (whole_from z.0 list z.1.day t answers pages) z.1 t answers
-          pages) (λ i. (sym planned i, sym begun i))
-          (run_begins give told page refused (on d t) list answers pages
-          (plan_fits d.count (length t) page (length list) (length answers) (length pages)) d)
+          pages) (λ i. (sym given.1 i, sym begun i))
+          (run_begins give told page (on d t) list answers pages
+          (plan_fits d.count (length t) page (length list) (length answers) (length pages) given.0) d)
 
-      -- what the contract says
+      -- and of one that is given
       pub goes_last : (at : Reached) (t' : List P) (answers' : List A) (pages' : List ℕ) →
           Goes p list whole at t' answers' pages' → p.turns ≤ at.turns →
           let r = run_unless give told page refused (on d t) list answers pages in
-          (outcome_at at.day p.check ≡ run_outcome_of r) × (t' ≡ r.state.table) × (answers' ≡ r.answers)
+          (outcome_at at.day (Ok tt) ≡ run_outcome_of r) × (t' ≡ r.state.table) × (answers' ≡ r.answers)
           × (pages' ≡ r.pages)
       goes_last at t' answers' pages' g last =
-          let same = run_ends give told page refused (on d t) list answers pages at (on at.day t') answers' pages'
+          let same = run_ends give told page (on d t) list answers pages at (on at.day t') answers' pages'
           (subst (λ (z : Plan × Reached). Goes z.0 list (whole_from z.0 list z.1.day t answers pages) at t' answers'
-          pages') (λ i. (planned i, begun i)) g)
-          (subst (λ z. z.turns ≤ at.turns) planned last) in (
-            ap (λ z. outcome_at at.day z.check) planned ∙ ap run_outcome_of same,
+          pages') (λ i. (given.1 i, begun i)) g)
+          (subst (λ z. z.turns ≤ at.turns) given.1 last)
+          ∙ ap (λ k. run_unless give told page k (on d t) list answers pages) (sym given.0) in (
+            ap run_outcome_of same,
             ap (λ r. r.state.table) same,
             ap (λ r. r.answers) same,
             ap (λ r. r.pages) same,

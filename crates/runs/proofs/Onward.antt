@@ -5,14 +5,13 @@ use native.Mathlib.Nat.{zero-mul, mul-le-mul_right}
 use native.Mathlib.Omega.{arith}
 use mathlib.Core.Path.{◌≡◌, sym, ap, ◌∙◌}
 use mathlib.Core.List.{List, [], ◌∷◌, ◌++◌, append_assoc}
-use mathlib.Core.Option.{Option, none, some}
+use mathlib.Core.Option.{none}
 use lib.ListN.{length, get_or, set, take, drop, length-append, length-drop, take-append-drop, drop_of_length-le}
 use lib.Seq.{length-take-le, take-length, take-suc-set, drop-cons, take_at, drop_at, drop-drop, drop-set-lt}
-use Rattle.snapshot.specs.declared.Refusal.{Refusal}
 use Rattle.snapshot.specs.Demand.{Result}
-use Rattle.snapshot.specs.Runs.{RunResult, turns_from, run_unless}
+use Rattle.snapshot.specs.Runs.{RunResult, turns_from}
 use Rattle.snapshot.proofs.Runs.{turns_taken}
-use Rattle.runs.specs.Plans.{plan_of, laid_from}
+use Rattle.runs.specs.Plans.{laid_from}
 
 -- ---- a table that is filled from the front
 
@@ -40,10 +39,6 @@ module _ {A : Type 0} (a m : ℕ) (xs ys : List A) (l : a + m ≤ length xs) (k 
 
 -- ---- the run
 
--- what a run gives that is refused or not, from what its turns give
-abbrev pub with_refusal : {S A : Type 0} → Option Refusal → RunResult S A → RunResult S A
-with_refusal k r = record { state = r.state; refusal = k; answers = r.answers; pages = r.pages }
-
 module _ {S A : Type 0} (give : S → ℕ → List ℕ → Result S) (told : Result S → A) (page : ℕ) where
   -- the turns of ds from turn i on: the places before them stay
   abbrev pub onward : (ds : List ℕ) → (i : ℕ) → S → List A → List ℕ → RunResult S A
@@ -57,17 +52,16 @@ module _ {S A : Type 0} (give : S → ℕ → List ℕ → Result S) (told : Res
       }
 
   -- from the first turn on, with j for the words before it
-  abbrev from_word : Option Refusal → List ℕ → S → List A → (pages : List ℕ) → ℕ → RunResult S A
-  from_word k ds s answers pages j =
+  abbrev from_word : List ℕ → S → List A → (pages : List ℕ) → ℕ → RunResult S A
+  from_word ds s answers pages j =
       let rest = turns_from give told page s ds answers (drop j pages) in
-      record { state = rest.state; refusal = k; answers = rest.answers; pages = take j pages ++ rest.pages }
+      record { state = rest.state; refusal = none; answers = rest.answers; pages = take j pages ++ rest.pages }
 
-  -- a run gives the turns of its plan
-  pub run_planned : (k : Option Refusal) (s : S) (ds : List ℕ) (answers : List A) (pages : List ℕ) →
-      run_unless give told page k s ds answers pages
-      ≡ with_refusal k (onward (take (plan_of page (length ds) k).turns ds) 0 s answers pages)
+  -- a run gives the turns of its list
+  pub run_planned : (s : S) (ds : List ℕ) (answers : List A) (pages : List ℕ) →
+      turns_from give told page s ds answers pages ≡ onward (take (length ds) ds) 0 s answers pages
   unfolding turns_from
-  run_planned none s ds answers pages =
+  run_planned s ds answers pages =
       ap (λ es. turns_from give told page s es answers pages) (sym (take-length ds))
       ∙ (let t = turns_from give told page s (take (length ds) ds) answers pages in
       λ z. record {
@@ -76,8 +70,7 @@ module _ {S A : Type 0} (give : S → ℕ → List ℕ → Result S) (told : Res
         answers = t.answers;
         pages = t.pages;
       })
-      ∙ ap (from_word none (take (length ds) ds) s answers pages) (sym (zero-mul page))
-  run_planned (some k) s ds answers pages = ap (from_word (some k) [] s answers pages) (sym (zero-mul page))
+      ∙ ap (from_word (take (length ds) ds) s answers pages) (sym (zero-mul page))
 
   -- the next turn
   pub onward_next : (ds : List ℕ) (i : ℕ) (s : S) (answers : List A) (pages : List ℕ) → i < length ds →

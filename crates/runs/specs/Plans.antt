@@ -1,36 +1,31 @@
 -- The plan of a run, and how far a run has come.
-use Rattle.std.specs.Prelude.{ℕ, List, ◌++◌, take, drop}
+use Rattle.std.specs.Prelude.{ℕ, List, ◌++◌, take, drop, Result, Ok, Err}
 use Rattle.std.proofs.Math.Option.{Option, none, some}
 use Rattle.snapshot.specs.declared.Day.{Day}
 use Rattle.snapshot.specs.declared.Refusal.{Refusal}
 use Rattle.snapshot.specs.Days.{State}
 use Rattle.snapshot.specs.Runs.{RunResult}
-use Rattle.admission.specs.declared.Check.{Check}
-use Rattle.admission.specs.declared.Check.TheVariants.{Passed, Refused}
 use Rattle.runs.specs.declared.Plan.{Plan}
 use Rattle.runs.specs.declared.Reached.{Reached}
 use Rattle.runs.specs.declared.RunOutcome.{RunOutcome}
 
 -- a refusal, or none, as a check
-abbrev pub check_of : Option Refusal → Check
-check_of none = Passed
-check_of (some k) = Refused k
+abbrev pub check_of : Option Refusal → Result (Unit {0}) Refusal
+check_of none = Ok tt
+check_of (some k) = Err k
 
-abbrev pub plan_with : Check → (turns page : ℕ) → Plan
-plan_with c turns page = record { check = c; turns = turns; page = page }
+-- a run of so many turns and words a page, or its refusal: one that is refused gives no turn
+abbrev pub plan_with : (turns page : ℕ) → Plan
+plan_with turns page = record { turns = turns; page = page }
 
--- a run that is refused gives no turn
-abbrev pub turns_unless : (turns : ℕ) → Option Refusal → ℕ
-turns_unless turns none = turns
-turns_unless turns (some k) = 0
-
-abbrev pub plan_of : (page turns : ℕ) → Option Refusal → Plan
-plan_of page turns k = plan_with (check_of k) (turns_unless turns k) page
+abbrev pub plan_of : (page turns : ℕ) → Option Refusal → Result Plan Refusal
+plan_of page turns none = Ok (plan_with turns page)
+plan_of page turns (some k) = Err k
 
 abbrev pub reached_at : Day → (turns words : ℕ) → Reached
 reached_at d turns words = record { day = d; turns = turns; words = words }
 
-abbrev pub outcome_at : Day → Check → RunOutcome
+abbrev pub outcome_at : Day → Result (Unit {0}) Refusal → RunOutcome
 outcome_at d c = record { day = d; check = c }
 
 -- the day after a run, and the refusal of the run itself, if any

@@ -2,20 +2,17 @@
 // turn takes. A method gives the turns.
 #![tactic(auto)]
 
-ghost use Rattle.std.specs.Prelude.{◌+◌, ◌*◌, ◌<◌, ◌≡◌, length, get_or, ltb};
+ghost use Rattle.std.specs.Prelude.{◌+◌, ◌*◌, ◌<◌, ◌≡◌, length, get_or, ltb, Ok, Err};
 ghost use Rattle.snapshot.specs.Refusals.{first_cause};
 ghost use Rattle.snapshot.specs.Values.{page_places};
 ghost use Rattle.snapshot.specs.Runs.{is_cramped, run_causes};
-ghost use Rattle.admission.specs.declared.Check.TheVariants.{Refused};
-ghost use Rattle.runs.specs.Plans.{plan_with, plan_of, reached_at, outcome_at};
+ghost use Rattle.runs.specs.Plans.{plan_of, reached_at, outcome_at};
 
-use admission::Check;
 use snapshot::{Day, Refusal};
 
-// What a run is to do: why it is refused, if it is, how many turns it gives, none if it is refused, and the places of a page.
+// What a run is to do that is not refused: how many turns it gives, and the places of a page.
 #[derive(Clone, Copy)]
 pub struct Plan {
-    pub check: Check,
     pub turns: usize,
     pub page: usize,
 }
@@ -32,7 +29,7 @@ pub struct Reached {
 #[derive(Clone, Copy)]
 pub struct RunOutcome {
     pub day: Day,
-    pub check: Check,
+    pub check: Result<(), Refusal>,
 }
 
 // Whether there are fewer words than so many for each turn. The product may have more than 64 bits: it is taken of the lower
@@ -59,25 +56,8 @@ fn is_cramped(values: u32, turns: usize, places: usize, words: usize) -> bool
     lacks_words(values, turns, words >> 1)
 }
 
-// A plan by which pages of so many values lie one after the other.
-fn plan_with(check: Check, turns: usize, values: u32) -> Plan
-    ensures { result ≡ plan_with check turns (page_places values) }
-{
-    Plan {
-        check,
-        turns,
-        page: 2 * (values as usize),
-    }
-}
-
-fn refused(k: Refusal, values: u32) -> Plan
-    ensures { result ≡ plan_with (Refused k) 0 (page_places values) }
-{
-    plan_with(Check::Refused(k), 0, values)
-}
-
-// The plan of a run on a day and a table of so many records: a page shows so many values, and there are so many turns, places in the
-// answer table and words in the page table.
+// The plan of a run on a day and a table of so many records, or why it is refused: a page shows so many values, and there are so many
+// turns, places in the answer table and words in the page table.
 pub fn planned(
     day: Day,
     size: usize,
@@ -85,21 +65,24 @@ pub fn planned(
     turns: usize,
     places: usize,
     words: usize,
-) -> Plan
+) -> Result<Plan, Refusal>
     ensures { result ≡ plan_of (page_places values) turns
         (first_cause (run_causes day.count size (page_places values) turns places words)) }
 {
     let n = day.count as usize;
     if n == 0 {
-        return refused(Refusal::OpenState, values);
+        return Err(Refusal::OpenState);
     }
     if size != n {
-        return refused(Refusal::LentSize, values);
+        return Err(Refusal::LentSize);
     }
     if is_cramped(values, turns, places, words) {
-        return refused(Refusal::TableShort, values);
+        return Err(Refusal::TableShort);
     }
-    plan_with(Check::Passed, turns, values)
+    Ok(Plan {
+        turns,
+        page: 2 * (values as usize),
+    })
 }
 
 // Before the first turn.
@@ -149,11 +132,18 @@ pub fn next(at: Reached, plan: Plan, day: Day) -> Reached
     }
 }
 
-// The end of a run.
-pub fn end(at: Reached, plan: Plan) -> RunOutcome
-    ensures { result ≡ outcome_at at.day plan.check }
+// The end of a run, and of one that is refused: it leaves the day.
+pub fn end(at: Reached) -> RunOutcome
+    ensures { result ≡ outcome_at at.day (Ok tt) }
 {
-    let day = at.day;
-    let check = plan.check;
-    RunOutcome { day, check }
+    RunOutcome {
+        day: at.day,
+        check: Ok(()),
+    }
+}
+
+pub fn refused(day: Day, k: Refusal) -> RunOutcome
+    ensures { result ≡ outcome_at day (Err k) }
+{
+    RunOutcome { day, check: Err(k) }
 }

@@ -1,5 +1,5 @@
 -- The claims of K1, once for every method, from demand 3 alone (and that a value shows the word which it was stored with): what is heard of a list that follows the tally makes a book, and
--- with its calls and answers a run of the canonical automaton (`holds-booked`). The run is built as the list goes: a call, an
+-- with its calls and answers a run of the canonical automaton (`holds_booked`). The run is built as the list goes: a call, an
 -- update or a return is the last action; a page's Scan, once it is answered, is placed at its number.
 use Prim.Native.Nat.{ℕ, zero, suc, ◌-◌, ◌≤◌, ◌<◌}
 use native.Mathlib.Omega.{arith}

@@ -1,4 +1,4 @@
--- Runs of the canonical automaton: one action more at the end, and a Scan placed where it belongs (`scan-placed`), which the
+-- Runs of the canonical automaton: one action more at the end, and a Scan placed where it belongs (`scan_placed`), which the
 -- actions of other processes behind it do not see.
 use Prim.Native.Nat.{ℕ, ◌-◌, ◌≤◌, ◌<◌}
 use native.Mathlib.Omega.{arith}

@@ -1,4 +1,4 @@
--- Every page shows of each register its last writing at or before the page's instant, with its number (`pages-show-last`), for every
+-- Every page shows of each register its last writing at or before the page's instant, with its number (`pages_show_last`), for every
 -- method, from demand 3 alone: the tally holds these at every instant (`Dated`), and a page shows the values of its instant.
 use Prim.Native.Nat.{ℕ, suc, ◌-◌, ◌≤◌, ◌<◌}
 use native.Mathlib.Omega.{arith}
@@ -8,7 +8,7 @@ use mathlib.Core.Logic.{by_cases}
 use mathlib.Core.Bool.{cond, ◌&&◌}
 use mathlib.Core.List.{List, [], ◌∷◌, ◌++◌, append-nil}
 use mathlib.Core.Option.{Option, none, some, map}
-use lib.Dec.{eqb, leb}
+use lib.Dec.{leb}
 use lib.ListN.{length, get_or, set, length-append, length-replicate, length-set, get_or-replicate, get_or-append}
 use lib.Seq.{get_or_at, get_or-set_same, get_or-set_other}
 use borrow.Author.Tests.{eq-eqb, ne_eqb, le-leb, lt-leb}
@@ -22,31 +22,9 @@ use Rattle.snapshot.specs.Tally.{advanced, opens, gains, puts, puts_if, tallied}
 use Rattle.snapshot.specs.Demand.{PageFits}
 use Rattle.snapshot.specs.Book.{Heard}
 use Rattle.snapshot.specs.LastWritings.{Writing, writing_of, writing_if, writings_by, last_of, ShowsLast, AllShowLast}
+use Rattle.snapshot.proofs.LastOf.{last_append, Until, until_next, last_later}
 use Rattle.snapshot.proofs.Placing.{all_append}
 use Rattle.snapshot.proofs.Follows.{Tells, Follows}
-
--- ---- the last writing of more
-
-last_append : (j e : ℕ) (v : Value) (ws us : List Writing) → last_of j e v (ws ++ us) ≡ last_of j e (last_of j e v ws) us
-last_append j e v [] us = refl
-last_append j e v (w ∷ ws) us = last_append j e (cond (eqb w.place j && leb w.number e) (stored w.number w.word) v) ws us
-
--- writings numbered at most e
-abbrev Until : ℕ → List Writing → Type 0
-Until e ws = All (λ w. w.number ≤ e) ws
-
-until_next : (e : ℕ) (ws : List Writing) → Until e ws → Until (suc e) ws
-until_next e [] a = tt
-until_next e (w ∷ ws) a = (let l = a.0 in omega arith, until_next e ws a.1)
-
--- an instant later they are the last ones still
-last_later : (j e : ℕ) (v : Value) (ws : List Writing) → Until e ws → last_of j (suc e) v ws ≡ last_of j e v ws
-last_later j e v [] a = refl
-last_later j e v (w ∷ ws) a =
-    let l = a.0 in
-    let seen = le-leb w.number (suc e) (omega arith) ∙ sym (le-leb w.number e l) in
-    ap (λ b. last_of j (suc e) (cond (eqb w.place j && b) (stored w.number w.word) v) ws) seen
-    ∙ last_later j e (cond (eqb w.place j && leb w.number e) (stored w.number w.word) v) ws a.1
 
 -- ---- the tally
 
@@ -70,8 +48,8 @@ module _ (m : ℕ) (t : Tally Value) (ws : List Writing) (g : Dated m t ws) (d :
     holds_now : (j : ℕ) → j < m → get_or vs j zero_value ≡ last_of j (suc t.event) zero_value (ws ++ us)
     holds_now j l =
         after j l
-        ∙ ap (λ v. last_of j (suc t.event) v us) (g.now j l ∙ sym (last_later j t.event zero_value ws g.past))
-        ∙ sym (last_append j (suc t.event) zero_value ws us)
+        ∙ ap (λ v. last_of j (suc t.event) v us) (g.now j l ∙ sym (last_later j t.event ws g.past zero_value))
+        ∙ sym (last_append j (suc t.event) ws us zero_value)
 
     advanced_dated : Dated m (advanced t vs d c) (ws ++ us)
     advanced_dated =
@@ -88,7 +66,7 @@ module _ (m : ℕ) (t : Tally Value) (ws : List Writing) (g : Dated m t ws) (d :
               (λ q.
               ap (λ x. get_or x j zero_value) (get_or-append t.instants (vs ∷ []) [] e (omega arith))
               ∙ g.each e j (omega arith) l ∙ sym (before j e (last_of j e zero_value ws) (omega arith))
-              ∙ sym (last_append j e zero_value ws us));
+              ∙ sym (last_append j e ws us zero_value));
         }
 
   -- one that writes nothing

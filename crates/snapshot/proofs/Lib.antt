@@ -26,4 +26,5 @@ pub mod Canonical
 pub mod Follows
 pub mod Booked
 pub mod SingleWriter
+pub mod LastOf
 pub mod LastWritings

@@ -1,5 +1,5 @@
--- In the single-writer memory every action's address is its own process: if the requests' are, so are the updates' (`run-own`), and
--- the requests of a machine's items are (`said-own`, `sees-own`).
+-- In the single-writer memory every action's address is its own process: if the requests' are, so are the updates' (`run_own`), and
+-- the requests of a machine's items are (`said_own`, `sees_own`).
 use Prim.Native.Nat.{ℕ, suc}
 use mathlib.Core.Path.{◌≡◌, refl, subst}
 use mathlib.Core.Bool.{Bool, true, false, cond}

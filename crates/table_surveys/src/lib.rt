@@ -36,21 +36,12 @@ pub fn waits(s: Survey, most: u32, more: u32, turns: u32) -> Survey
     ensures { result ≡ waits_by s most more turns }
 {
     if most <= turns {
-        return Survey {
-            scan_most: s.scan_most,
-            update_more: s.update_more,
-            event: s.event,
-            end: s.end,
-            bad: true,
-        };
+        return Survey { bad: true, ..s };
     }
     let owed = most - turns + more;
     Survey {
-        scan_most: s.scan_most,
-        update_more: s.update_more,
-        event: s.event,
         end: end_with(s.end, owed),
-        bad: s.bad,
+        ..s
     }
 }
 

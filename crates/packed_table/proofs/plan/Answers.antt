@@ -4,41 +4,34 @@ use native.Mathlib.Omega.{arith}
 use mathlib.Core.Path.{sym, ap, ◌∙◌}
 use mathlib.Core.List.{[], foldl}
 use lib.ListN.{get_or, drop}
+use Rattle.std.proofs.lemmas.Result.{err_from_is_err_and}
 use Rattle.snapshot.specs.Requests.{number_in}
 use Rattle.admission.specs.Checks.{as_option, last_refusal}
-use Rattle.admission.proofs.Checked.{passed_none}
 use Rattle.unbounded.specs.Processes.{is_idle}
 use Rattle.unbounded_surveys.specs.Surveys.{surveyed_by}
 use Rattle.memory.proofs.Accepted.{plan_refuses, plan_inside, plan_last}
 use Rattle.packed.specs.Packing.{unpack_task}
 use Rattle.packed_rows.specs.Rows.{unpacked_all}
-use Rattle.packed_rows.proofs.Rows.{records_long, task_is, held, failed}
+use Rattle.packed_rows.proofs.Rows.{records_long, task_is}
 use Rattle.packed_table.proofs.Requests.{first_found}
 use Rattle.packed_table.proofs.plan.Goals as goal
 
-pub returns-then-is_refused : goal.returns-then-is_refused
-returns-then-is_refused c =
+pub returns-in_err-first_check : goal.returns-in_err-first_check
+returns-in_err-first_check c =
     let a = c.args in
     let t = a.t.now in
-    let item = c.requires in
-    let z = c.first_check-c in
-    let e = first_found a.day t a.x a.words c.survey_of.ensures
-    c.survey-s.ensures z.ensures in
-    plan_refuses a.day (unpacked_all t) a.x item a.words (as_option z.result) e
-    (held c.is_refused.ensures c.if-is_refused.true)
+    let found = first_found a.day t a.x a.words c.survey_of.ensures c.survey-s.ensures c.first_check.ensures in
+    let p = err_from_is_err_and c.from_residual.result c.from_residual.ensures.1 in
+    rw (p.1, p.2) (plan_refuses a.day (unpacked_all t) a.x c.requires a.words c.in_err-first_check.field-0.0
+    (sym found ∙ ap as_option c.in_err-first_check.was))
 
 pub returns : goal.returns
 returns c page q =
     let a = c.args in
     let t = a.t.now in
     let item = c.requires in
-    let z = c.first_check-c in
-    let e = first_found a.day t a.x a.words
-    c.survey_of.ensures
-    c.survey-s.ensures z.ensures in
-    let passed = sym e ∙ passed_none (as_option z.result) (failed
-    c.is_refused.ensures
-    c.if-is_refused.false) in
+    let found = first_found a.day t a.x a.words c.survey_of.ensures c.survey-s.ensures c.first_check.ensures in
+    let passed = sym found ∙ ap as_option c.in_ok-first_check.was in
     let n = plan_inside a.day (unpacked_all t) a.x item a.words passed in
     let long = records_long t in
     let s = c.survey-s.ensures ∙ ap

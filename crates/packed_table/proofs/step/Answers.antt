@@ -2,7 +2,6 @@
 use mathlib.Core.Path.{refl, sym, ap, ◌∙◌}
 use Rattle.requests.specs.Requests.{item_of}
 use Rattle.admission.specs.Checks.{as_option}
-use Rattle.admission.proofs.Checked.{passed_none}
 use Rattle.unbounded.specs.Days.{stepped}
 use Rattle.memory.specs.Tables.{state_of, outcome_of, accepted_in}
 use Rattle.memory.proofs.Accepted.{stepped_refused, stepped_accepted, call_same, called_leaves}
@@ -10,23 +9,20 @@ use Rattle.memory.proofs.Accepted.{after_call, after_turn, after_refusal}
 use Rattle.packed_rows.specs.Rows.{unpacked_all, packed_by}
 use Rattle.packed_table.specs.Tables.{is_refused}
 use Rattle.packed_rows.proofs.Rows.{held, failed}
-use Rattle.packed_table.proofs.Requests.{after_refused, after_accepted, refusal_refused, turn_accepted}
+use Rattle.packed_table.proofs.Requests.{after_refused, after_accepted, turn_accepted}
 use Rattle.packed_table.proofs.step.Goals as goal
 
-pub returns-then-is_refused : goal.returns-then-is_refused
-returns-then-is_refused c =
+pub returns-in-Err : goal.returns-in-Err
+returns-in-Err c =
     let a = c.args in
     let t = a.t.now in
     let page = a.page.now in
     let s = state_of a.day (unpacked_all t) in
     let all = stepped s (item_of page a.x) in
-    let z = c.plan-c in
-    let refused = held c.is_refused.ensures c.if-is_refused.true in
-    let left = stepped_refused s (item_of page a.x) (as_option z.result) (z.ensures page refl) refused in
-    let answer = sym (ap (λ o. is_refused o.answer) left.0) ∙ refusal_refused a.day (as_option z.result) refused in
+    let left = stepped_refused s (item_of page a.x) c.in-Err.refusal (sym (c.plan.ensures page refl) ∙ ap as_option c.in-Err.is) in
     record {
       value = c.refused.ensures ∙ left.0;
-      t_after = after_refused t a.x all answer;
+      t_after = after_refused t a.x all (sym (ap (λ o. is_refused o.answer) left.0));
       page_after = after_refusal page all a.x left.2;
     }
 
@@ -37,10 +33,7 @@ returns-then-is_call c =
     let page = a.page.now in
     let s = state_of a.day (unpacked_all t) in
     let all = stepped s (item_of page a.x) in
-    let z = c.plan-c in
-    let passed = sym (z.ensures page refl)
-    ∙ passed_none (as_option z.result) (failed c.is_refused.ensures
-    c.if-is_refused.false) in
+    let passed = sym (c.plan.ensures page refl) ∙ ap as_option c.in_default.is in
     let calls = held c.is_call.ensures c.if-is_call.true in
     let same = stepped_accepted s (item_of page a.x) passed in
     let even = ap (accepted_in s) (call_same page a.x calls) ∙ same in
@@ -61,11 +54,7 @@ returns c =
     let page = a.page.now in
     let s = state_of a.day (unpacked_all t) in
     let all = stepped s (item_of page a.x) in
-    let z = c.plan-c in
-    let passed = sym (z.ensures page refl)
-    ∙ passed_none (as_option z.result) (failed
-    c.is_refused.ensures
-    c.if-is_refused.false) in
+    let passed = sym (c.plan.ensures page refl) ∙ ap as_option c.in_default.is in
     let later = failed c.is_opening.ensures c.if-is_opening.false in
     let turns = failed c.is_call.ensures
     c.if-is_call.false in
