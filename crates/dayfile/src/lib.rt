@@ -92,7 +92,7 @@ fn refused_span(bytes: &[u8], k: Refusal) -> usize
     ensures { result ≡ span_of bytes.now (Reading.Refused k) }
 {
     let left = bytes.len();
-    if matches!(k, Refusal::CutShort) || left < 2 {
+    if k == Refusal::CutShort || left < 2 {
         return left;
     }
     (2 + usize::from(field(bytes, 0))).min(left)

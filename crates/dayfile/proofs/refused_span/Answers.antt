@@ -3,30 +3,23 @@ use Prim.Native.Nat.{◌+◌, min}
 use native.Mathlib.Omega.{arith}
 use native.Mathlib.Nat.{min-eq_right}
 use mathlib.Core.Path.{sym, ap, ◌∙◌}
+use mathlib.Core.Bool.{true, false}
 use lib.ListN.{length}
-use Rattle.snapshot.specs.Refusals.{number_of}
-use Rattle.dayfile.proofs.Pieces.{rest_span, said_span, cut_short}
+use Rattle.dayfile.proofs.Pieces.{span_if}
 use Rattle.dayfile.proofs.refused_span.Goals as goal
-use Rattle.dayfile.proofs.refused_span.Goals.{in-CutShort, in_default}
-use Rattle.dayfile.proofs.refused_span.Goals.{then-matches-via-then-matches, then-matches-via-else-matches+then-left-lt2}
+use Rattle.dayfile.proofs.refused_span.Goals.{then-eq-via-then-eq, then-eq-via-else-eq+then-left-lt2}
 
-pub returns-then-matches : goal.returns-then-matches
-returns-then-matches c =
+pub returns-then-eq : goal.returns-then-eq
+returns-then-eq c =
     let bytes = c.args.bytes.now in
-    elim c.match-matches.branch [
-      | in-CutShort m ↦ rest_span bytes c.args.k (ap number_of m.in-CutShort.is)
-      | in_default m ↦ elim c.then-matches.branch [
-        | then-matches-via-then-matches w ↦ cc
-        | then-matches-via-else-matches+then-left-lt2 w ↦
-            sym (min-eq_right (omega arith)) ∙ said_span bytes c.args.k (λ q. m.in_default.not-CutShort (cut_short c.args.k q))
-      ]
+    elim c.then-eq.branch [
+      | then-eq-via-then-eq w ↦ span_if bytes c.args.k true (w.if-eq.ensures {u = tt})
+      | then-eq-via-else-eq+then-left-lt2 w ↦
+      sym (min-eq_right (omega arith)) ∙ span_if bytes c.args.k false (w.if-eq.ensures {u = tt})
     ]
 
 pub returns : goal.returns
 returns c =
     let bytes = c.args.bytes.now in
-    elim c.match-matches.branch [
-      | in-CutShort m ↦ cc
-      | in_default m ↦ c.min.ensures ∙ ap (λ n. min (2 + n) (length bytes)) (c.from.ensures ∙ c.field.ensures)
-          ∙ said_span bytes c.args.k (λ q. m.in_default.not-CutShort (cut_short c.args.k q))
-    ]
+    c.min.ensures ∙ ap (λ n. min (2 + n) (length bytes)) (c.from.ensures ∙ c.field.ensures)
+    ∙ span_if bytes c.args.k false (c.if-eq.ensures {u = tt})
