@@ -23,7 +23,7 @@ use Rattle.dayfile.specs.Reader.{record_of, reading}
 use Rattle.dayfile.specs.Files.{readings_up_to, readings}
 use Rattle.days.specs.Asking.{lent_to}
 use Rattle.days.specs.Happenings.{day_of}
-use Rattle.book.specs.declared.Booking.TheVariants.{Written, Refused}
+use Rattle.std.specs.Prelude.{Ok, Err}
 use Rattle.book.specs.DayBooks.{processes_in, book_in}
 use Rattle.book.specs.Places.{place_of, booking_of, book_with}
 
@@ -92,9 +92,9 @@ numbers = refl
 
 -- a book of one place is too short for case A, and the place behind its two stays as it is
 pub rooms :
-    (booking_of (book_in case_a) (processes_in case_a) 1 ≡ Refused RoomShort)
+    (booking_of (book_in case_a) (processes_in case_a) 1 ≡ Err RoomShort)
     × (number_of RoomShort ≡ 12)
-    × (booking_of (book_in case_a) (processes_in case_a) 2 ≡ Written 2 1)
+    × (booking_of (book_in case_a) (processes_in case_a) 2 ≡ Ok (record { places = 2; processes = 1 }))
     × (book_with (book_in case_a) ((1 ∷ []) ∷ (2 ∷ []) ∷ (3 ∷ []) ∷ []) ≡ places_a ++ ((3 ∷ []) ∷ []))
     × (book_with (book_in case_a) ((1 ∷ []) ∷ []) ≡ (1 ∷ []) ∷ [])
 unfolding book_in day_of readings readings_up_to reading record_of length_of lent_to Days.stepped step verdict laid read_into cleared page_of differs is_moved with_moved lends begin position place_at first_after second_after end_after decision marks_after after_read found_by written turned listed most_reads is_past unsound refusal advance opened_by called_by turn_by accept

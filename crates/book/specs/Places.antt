@@ -1,11 +1,11 @@
 -- The place of an operation, and what writing a book answers and leaves (document 02, K1).
-use Rattle.std.specs.Prelude.{ℕ, cond, List, [], ◌∷◌, ◌++◌, map, ltb, length, drop}
+use Rattle.std.specs.Prelude.{ℕ, cond, Result, Ok, Err, List, [], ◌∷◌, ◌++◌, map, ltb, length, drop}
 use Rattle.snapshot.specs.Tally.{Job, scan, update}
 use Rattle.snapshot.specs.Book.{Operation}
+use Rattle.snapshot.specs.declared.Refusal.{Refusal}
 use Rattle.snapshot.specs.declared.Refusal.TheVariants.{RoomShort}
 use Rattle.places.specs.Places.{eight}
-use Rattle.book.specs.declared.Booking.{Booking}
-use Rattle.book.specs.declared.Booking.TheVariants.{Written, Refused}
+use Rattle.book.specs.declared.Booked.{Booked}
 
 -- "kind (2 entry, 3 page)"
 abbrev pub kind_of : Job → ℕ
@@ -22,8 +22,8 @@ place_of o = o.number ∷ kind_of o.job ∷ o.process ∷ eight (words_of o.word
 
 -- "12 when the lent book has fewer places than finished pieces of work"; else "the counts written are returned", and the day's
 -- processes
-abbrev pub booking_of : List Operation → (processes room : ℕ) → Booking
-booking_of os n room = cond (ltb room (length os)) (Refused RoomShort) (Written (length os) n)
+abbrev pub booking_of : List Operation → (processes room : ℕ) → Result Booked Refusal
+booking_of os n room = cond (ltb room (length os)) (Err RoomShort) (Ok (record { places = length os; processes = n }))
 
 -- "tested before anything is written"; "later places remain"
 abbrev pub book_with : List Operation → List (List ℕ) → List (List ℕ)

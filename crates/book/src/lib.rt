@@ -9,11 +9,11 @@ use snapshot::Refusal;
 
 mod notes;
 
-// How many places of a book were written, and for how many processes the day is; or why none was.
-#[derive(Clone, Copy)]
-pub enum Booking {
-    Written { places: usize, processes: u32 },
-    Refused(Refusal),
+// How many places of a book were written, and for how many processes the day is.
+#[derive(Clone, Copy, Debug, PartialEq, Eq)]
+pub struct Booked {
+    pub places: usize,
+    pub processes: u32,
 }
 
 // No book has more places: a day has at most 65,535 events, and a finished operation takes three of them at least.
@@ -35,17 +35,16 @@ fn has_room(bytes: &[u8], book: &mut [[u32; 11]]) -> bool
 
 // Runs the records of a day file as the day runner does, and writes its book: from the first place on, one for each finished
 // operation. The later places stay as they are. A book that has fewer places stays whole, and is refused (12).
-pub fn write(bytes: &[u8], book: &mut [[u32; 11]]) -> Booking
+pub fn write(bytes: &[u8], book: &mut [[u32; 11]]) -> Result<Booked, Refusal>
     ensures value { result ≡ booking_of (book_in bytes.now) (processes_in bytes.now) (length book.old) }
     ensures book_after { book.new ≡ book_with (book_in bytes.now) book.old }
 {
     if !has_room(bytes, book) {
-        return Booking::Refused(Refusal::RoomShort);
+        return Err(Refusal::RoomShort);
     }
     let written = notes::pass(bytes, book);
-    let day = written.day;
-    Booking::Written {
+    Ok(Booked {
         places: written.count,
-        processes: day.count,
-    }
+        processes: written.day.count,
+    })
 }

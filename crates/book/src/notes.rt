@@ -1,5 +1,5 @@
 // A pass over a day file: each record is read and asked of the table, and what it finishes is put in the book.
-ghost use Rattle.std.specs.Prelude.{◌≡◌, ◌≤◌, not, length, replicate};
+ghost use Rattle.std.specs.Prelude.{◌≡◌, ◌≤◌, length, replicate};
 ghost use Rattle.snapshot.specs.Values.{words_in};
 ghost use Rattle.book.specs.Passes.{blank_notes, next_after, Consumes, notes_past, book_past, Passed};
 
@@ -34,21 +34,12 @@ fn start(end: usize) -> Notes
     }
 }
 
-// Whether there is another record to look for.
-fn goes(s: Notes) -> bool
-    ensures { result ≡ not s.ended }
-{
-    !s.ended
-}
-
 // The next record of the file, or how it ends.
 fn next_of(s: Notes, bytes: &[u8]) -> Reading
     requires { s.at ≤ s.end × s.end ≤ length bytes.now }
     ensures { (result ≡ next_after s bytes.now) × Consumes result s }
 {
-    let at = s.at;
-    let end = s.end;
-    dayfile::read(&bytes[at..end])
+    dayfile::read(&bytes[s.at..s.end])
 }
 
 // The notes once what was read has happened. A refusal of the reader ends the file.
@@ -58,27 +49,20 @@ fn noted(s: Notes, x: Reading, o: Outcome, page: &[u32], book: &mut [[u32; 11]])
     ensures book_after { book.new ≡
         book_past s x o (words_in o.day.count page.now) book.old }
 {
-    let words = s.words;
-    let day = o.day;
-    let answer = o.answer;
     let Reading::Found { record, next } = x else {
         return Notes {
-            day,
-            at: s.at,
-            end: s.end,
+            day: o.day,
             ended: true,
-            count: s.count,
-            words,
+            ..s
         };
     };
-    let count = answers::finished(words, s.count, record, o, page, book);
     Notes {
-        day,
+        day: o.day,
         at: s.at + next,
         end: s.end,
         ended: false,
-        count,
-        words: answers::words_after(words, record, answer),
+        count: answers::finished(s.words, s.count, record, o, page, book),
+        words: answers::words_after(s.words, record, o.answer),
     }
 }
 
@@ -89,9 +73,9 @@ fn run(s: Notes, bytes: &[u8], book: &mut [[u32; 11]], page: &mut [u32]) -> Note
 {
     let mut table = table::blank();
     let mut notes = s;
-    while goes(notes) {
+    while !notes.ended {
         let x = next_of(notes, bytes);
-        let n = days::lent_to(notes.day, days::request_of(x));
+        let n = days::lent_to(notes.day, x);
         let o = days::asked(notes.day, &mut table[..n], x, page);
         notes = noted(notes, x, o, page, book);
     }

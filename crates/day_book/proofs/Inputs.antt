@@ -10,8 +10,8 @@ use borrow.Author.Tests.{ltb-false}
 use Rattle.snapshot.specs.Book.{Operation}
 use Rattle.snapshot.specs.declared.Refusal.{Refusal}
 use Rattle.snapshot.specs.declared.Refusal.TheVariants.{RoomShort}
-use Rattle.book.specs.declared.Booking.{Booking}
-use Rattle.book.specs.declared.Booking.TheVariants as Bookings
+use Rattle.std.specs.Prelude.{Result, Ok, Err}
+use Rattle.book.specs.declared.Booked.{Booked}
 use Rattle.book.specs.DayBooks.{processes_in, book_in}
 use Rattle.book.specs.Places.{place_of, booking_of, book_with}
 use Rattle.book.proofs.DayFollows.{processes_few}
@@ -27,35 +27,36 @@ module _ (file : List ℕ) (places : List (List ℕ)) where
   abbrev os : List Operation
   os = book_in file
 
-  abbrev booking : Booking
+  abbrev booking : Result Booked Refusal
   booking = booking_of os (processes_in file) (length places)
 
   -- where it has more of them, nothing is written
-  pub refused_unlaid : (k : Refusal) → booking ≡ Bookings.Refused k → book_of (length places) file ≡ []
+  pub refused_unlaid : (k : Refusal) → booking ≡ Err k → book_of (length places) file ≡ []
   refused_unlaid k = go (ltb (length places) (length os))
     where
-      go : (b : Bool) → cond b (Bookings.Refused RoomShort) (Bookings.Written (length os) (processes_in file)) ≡ Bookings.Refused k →
+      go : (b : Bool) → cond b (Err RoomShort) (Ok (record { places = length os; processes = processes_in file })) ≡ Err k →
           cond b [] (book_text os) ≡ []
       go true q = refl
       go false q = let z : ◌≡◌ {A = ℕ} 0 1 = cc in absurd (omega arith)
 
   -- where they were written, the text of the book is laid
   module _ (room : ℕ) (ready : LinesFit (length places) room) where
-    pub written_laid : (count n : ℕ) → booking ≡ Bookings.Written count n → (after : List (List ℕ)) → after ≡ book_with os places →
-        laid_book after count n room ≡ book_of (length places) file
-    written_laid count n is after lies = ap (λ ps. laid_book ps count n room) lies ∙ go (ltb (length places) (length os)) refl is
+    pub written_laid : (b : Booked) → booking ≡ Ok b → (after : List (List ℕ)) → after ≡ book_with os places →
+        laid_book after b.places b.processes room ≡ book_of (length places) file
+    written_laid w is after lies = ap (λ ps. laid_book ps w.places w.processes room) lies ∙ go (ltb (length places) (length os)) refl is
       where
         go : (b : Bool) → ltb (length places) (length os) ≡ b →
-            cond b (Bookings.Refused RoomShort) (Bookings.Written (length os) (processes_in file)) ≡ Bookings.Written count n →
-            laid_book (cond b places (map place_of os ++ drop (length os) places)) count n room ≡ cond b [] (book_text os)
+            cond b (Err RoomShort) (Ok (record { places = length os; processes = processes_in file })) ≡ Ok w →
+            laid_book (cond b places (map place_of os ++ drop (length os) places)) w.places w.processes room ≡ cond b [] (book_text os)
         go true e q = let z : ◌≡◌ {A = ℕ} 0 1 = cc in absurd (omega arith)
         go false e q =
+            let same : w ≡ record { places = length os; processes = processes_in file } = cc in
             let later = drop (length os) places in
             let few : length os ≤ length places = ltb-false _ _ e in
             let most = ready.few in
             let wide = ready.wide in
-            let k : count ≡ length os = cc in
-            let m : n ≡ processes_in file = cc in
+            let k : w.places ≡ length os = ap (λ r. r.places) same in
+            let m : w.processes ≡ processes_in file = ap (λ r. r.processes) same in
             ap₂ (λ k m. laid_book (map place_of os ++ later) k m room) k m
             ∙ laid_book_text (processes_in file) (processes_few file) os later (book_words file) (omega arith) room (omega arith)
 

@@ -8,7 +8,6 @@ ghost use Rattle.texts.specs.Laying.{Laid};
 ghost use Rattle.streams.specs.Input.{incoming};
 ghost use Rattle.day_book.specs.Runs.{LinesFit, book_of, written_of, IsBookRun};
 
-use book::Booking;
 use streams::input::Input;
 use streams::{input, output};
 
@@ -29,11 +28,8 @@ fn lay(rt: &HostRuntime, bytes: &[u8], places: &mut [[u32; 11]], out: &mut [u8])
 {
     let booking = book::write(bytes, places);
     match booking {
-        Booking::Written {
-            places: count,
-            processes,
-        } => booklines::lay_book(places, count, processes as usize, out),
-        Booking::Refused(_) => {
+        Ok(booked) => booklines::lay_book(places, booked.places, booked.processes as usize, out),
+        Err(_) => {
             let _ = eprintln!(rt; "day_book: the book has more than 21845 places");
             0
         }

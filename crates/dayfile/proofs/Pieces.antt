@@ -11,9 +11,12 @@ use mathlib.Core.List.{List, [], ◌∷◌, ◌++◌}
 use lib.ListN.{length, take, drop, length-drop, take-append-drop}
 use lib.Seq.{length-take-le}
 use lib.Dec.{eqb}
-use borrow.Author.Tests.{eq-eqb, ne_eqb}
+use denote.Enum.Bare.{sameb}
+use Rattle.snapshot.specs.contracts.Refusal.{the_type}
 use Rattle.snapshot.specs.Refusals.{number_of}
 use Rattle.snapshot.specs.declared.Refusal.{Refusal}
+use Rattle.snapshot.specs.declared.Refusal.TheVariants.{CountRange, ProcessRange, Busy, Idle, DayFull, LentSize, CutShort, UnknownKind, WrongLength}
+use Rattle.snapshot.specs.declared.Refusal.TheVariants.{OpenState, CannotArise, RoomShort, TableShort, NoPage, TooMany}
 use Rattle.snapshot.specs.declared.Request.{Request}
 use Rattle.dayfile.specs.declared.Reading.{Reading}
 use Rattle.dayfile.specs.declared.Reading.TheVariants.{Found, End, Refused}
@@ -46,13 +49,29 @@ refused_span bs k l = go (eqb (number_of k) 7)
     )
 
 -- as the code finds them: all of them after 7, else as many as are said, if they are there
-pub rest_span : (bs : List ℕ) (k : Refusal) → number_of k ≡ 7 → length bs ≡ span_of bs (Refused k)
-unfolding span_of
-rest_span bs k q = sym (rw (eq-eqb (number_of k) 7 q))
+-- 7 is the number of this refusal alone
+seven : (k : Refusal) → sameb the_type k CutShort ≡ eqb (number_of k) 7
+seven CountRange = refl
+seven ProcessRange = refl
+seven Busy = refl
+seven Idle = refl
+seven DayFull = refl
+seven LentSize = refl
+seven CutShort = refl
+seven UnknownKind = refl
+seven WrongLength = refl
+seven OpenState = refl
+seven CannotArise = refl
+seven RoomShort = refl
+seven TableShort = refl
+seven NoPage = refl
+seven TooMany = refl
 
-pub said_span : (bs : List ℕ) (k : Refusal) → (number_of k ≡ 7 → ⊥) → min (2 + length_in bs) (length bs) ≡ span_of bs (Refused k)
+-- what is passed over, by whether the refusal is that one
+pub span_if : (bs : List ℕ) (k : Refusal) (b : Bool) → b ≡ sameb the_type k CutShort →
+    cond b (length bs) (min (2 + length_in bs) (length bs)) ≡ span_of bs (Refused k)
 unfolding span_of
-said_span bs k q = sym (rw (ne_eqb (number_of k) 7 q))
+span_if bs k b e = ap (λ b. cond b (length bs) (min (2 + length_in bs) (length bs))) (e ∙ seven k)
 
 -- what was read takes some of the bytes, and no more than are left
 pub span_fits : (bs : List ℕ) (x : Reading) → reading bs ≡ x → 0 < length bs → (0 < span_of bs x) × (span_of bs x ≤ length bs)

@@ -1,14 +1,15 @@
 // The reader of day files: one record by the house layout, or the refusal that document 01's order asks for.
 #![tactic(auto)]
 
-ghost use Rattle.std.specs.Prelude.{◌≡◌, ◌+◌, ◌<◌, ◌≤◌, length};
+ghost use Rattle.std.specs.Prelude.{◌≡◌, ◌+◌, ◌<◌, ◌≤◌, length, MatchOption};
 ghost use Rattle.dayfile.specs.Layout.{number_at, length_of};
 ghost use Rattle.dayfile.specs.Reader.{record_of, reading};
 ghost use Rattle.dayfile.specs.Pieces.{span_of};
 
 use snapshot::{Refusal, Request};
 
-// What the reader finds: a record, which is a request, and how many bytes it takes, the ordinary end, or a refusal.
+// What the reader finds: a record, which is a request, and how many bytes it takes, the ordinary end, or a refusal. These are three
+// cases, so neither an `Option` nor a `Result`.
 #[derive(Clone, Copy)]
 pub enum Reading {
     Found { record: Request, next: usize },
@@ -16,47 +17,39 @@ pub enum Reading {
     Refused(Refusal),
 }
 
-// A byte as a wider number.
-fn wide(b: u8) -> u32
-    ensures { (result ≡ b) × (result < 256) }
-{
-    b as u32
-}
-
 // The 16 bits at a place, little-endian.
-fn field(bytes: &[u8], at: usize) -> u32
+fn field(bytes: &[u8], at: usize) -> u16
     requires { at + 1 < length bytes.now }
-    ensures { (result ≡ number_at 2 bytes.now at) × (result < 65536) }
+    ensures { result ≡ number_at 2 bytes.now at }
 {
-    let low = wide(bytes[at]);
-    let high = wide(bytes[at + 1]);
-    low + 256 * high
+    u16::from_le_bytes([bytes[at], bytes[at + 1]])
 }
 
-// The length of a kind's records, or 0 for an unknown kind.
-fn length_of(kind: u32) -> usize
-    ensures { result ≡ length_of kind }
+// The length of a kind's records, if there is such a kind. The kind stays a number, as the file has it: an enum of kinds would be
+// `Request` again, with nothing in it.
+fn length_of(kind: u16) -> Option<usize>
+    ensures { MatchOption result (length_of kind ≡ 0) (λ n. (n ≡ length_of kind) × (0 < n)) }
 {
     match kind {
-        1 => 4,
-        2 => 8,
-        3 => 4,
-        4 => 4,
-        _ => 0,
+        1 => Some(4),
+        2 => Some(8),
+        3 => Some(4),
+        4 => Some(4),
+        _ => None,
     }
 }
 
 // The record of a known kind whose bytes are all there.
-fn record_of(bytes: &[u8], kind: u32) -> Request
+fn record_of(bytes: &[u8], kind: u16) -> Request
     requires { (6 ≤ length bytes.now) × (2 + length_of kind ≤ length bytes.now) }
     ensures { result ≡ record_of bytes.now kind }
 {
-    let first = field(bytes, 4);
+    let first = u32::from(field(bytes, 4));
     match kind {
         1 => Request::Open(first),
         2 => Request::Update {
             process: first,
-            word: field(bytes, 6) + 65536 * field(bytes, 8),
+            word: u32::from_le_bytes([bytes[6], bytes[7], bytes[8], bytes[9]]),
         },
         3 => Request::Scan(first),
         _ => Request::Turn(first),
@@ -74,21 +67,17 @@ pub fn read(bytes: &[u8]) -> Reading
     if left == 1 {
         return Reading::Refused(Refusal::CutShort);
     }
-    let length = field(bytes, 0) as usize;
-    if length < 4 {
-        return Reading::Refused(Refusal::WrongLength);
-    }
-    if 8 < length {
+    let length = usize::from(field(bytes, 0));
+    if length < 4 || 8 < length {
         return Reading::Refused(Refusal::WrongLength);
     }
     if left < 2 + length {
         return Reading::Refused(Refusal::CutShort);
     }
     let kind = field(bytes, 2);
-    let due = length_of(kind);
-    if due == 0 {
+    let Some(due) = length_of(kind) else {
         return Reading::Refused(Refusal::UnknownKind);
-    }
+    };
     if length != due {
         return Reading::Refused(Refusal::WrongLength);
     }
@@ -103,17 +92,10 @@ fn refused_span(bytes: &[u8], k: Refusal) -> usize
     ensures { result ≡ span_of bytes.now (Reading.Refused k) }
 {
     let left = bytes.len();
-    if snapshot::number(k) == 7 {
+    if k == Refusal::CutShort || left < 2 {
         return left;
     }
-    if left < 2 {
-        return left;
-    }
-    let said = 2 + field(bytes, 0) as usize;
-    if left < said {
-        return left;
-    }
-    said
+    (2 + usize::from(field(bytes, 0))).min(left)
 }
 
 // How many of the bytes belong to what was read at their start.

@@ -3,6 +3,7 @@ use Prim.Native.Nat.{ℕ, zero, suc, ◌+◌, ◌≤◌}
 use native.Mathlib.Omega.{arith}
 use native.Mathlib.Nat.{le_refl}
 use mathlib.Core.Path.{◌≡◌, refl, subst}
+use mathlib.Core.Logic.{◌≢◌}
 use mathlib.Core.Bool.{Bool, true, false, cond}
 use mathlib.Core.List.{List, [], ◌∷◌}
 use mathlib.Core.Option.{Option, none, some}
@@ -29,10 +30,22 @@ use Rattle.snapshot.specs.Days.{State, turn_of, process_of, read_from, turn_by, 
 use Rattle.unbounded.specs.Days.{figure3, stepped}
 use Rattle.memory.specs.Tables.{state_of, refusal_in}
 use Rattle.memory.proofs.Accepted.{stepped_refused, stepped_accepted, page_long}
-use Rattle.days.specs.Asking.{wanted, lent_to, asked_page}
+use Rattle.days.specs.Asking.{wanted, lent_to, request_of, asked_page}
 use Rattle.days.specs.Happenings.{Box, box_after, happening_in, lent_in}
 
--- ---- at most eight records are lent
+-- ---- how many records are lent, and at most eight
+
+-- only an opening says how many it wants
+pub wanted_by_day : (d : Day) (x : Request) → ((k : ℕ) → x ≢ Open k) → d.count ≡ wanted d x
+wanted_by_day d (Open k) q = absurd (q k refl)
+wanted_by_day d (Update p w) q = refl
+wanted_by_day d (Scan p) q = refl
+wanted_by_day d (Turn p) q = refl
+
+pub nothing_wanted : (d : Day) (x : Reading) → ((r : Request) (k : ℕ) → x ≢ Found r k) → d.count ≡ wanted d (request_of x)
+nothing_wanted d (Found r k) q = absurd (q r k refl)
+nothing_wanted d End q = refl
+nothing_wanted d (Refused k) q = refl
 
 at_most_eight : (n : ℕ) (b : Bool) → ltb n 8 ≡ b → cond b n 8 ≤ 8
 at_most_eight n true e = let l = ltb-true n 8 e in omega (arith, l)

@@ -1,5 +1,5 @@
 -- What asking a record of the table comes to: its outcome, the table and the page list afterwards, by the step of the definitions.
-use Rattle.std.specs.Prelude.{ℕ, Bool, true, false, cond, List, ltb}
+use Rattle.std.specs.Prelude.{ℕ, Bool, true, false, cond, Option, Some, None, List, ltb}
 use Rattle.snapshot.specs.Demand.{Result}
 use Rattle.snapshot.specs.Days.{State}
 use Rattle.snapshot.specs.declared.Day.{Day}
@@ -19,6 +19,12 @@ abbrev pub is_none : Reading → Bool
 is_none (Found x next) = false
 is_none End = true
 is_none (Refused k) = true
+
+-- the request that was found, if one was
+abbrev pub request_in : Reading → Option Request
+request_in (Found x next) = Some x
+request_in End = None
+request_in (Refused k) = None
 
 -- the request that was found; where none was, one that is not asked
 abbrev pub request_of : Reading → Request

@@ -3,49 +3,43 @@
 #![tactic(auto)]
 
 ghost use Rattle.std.specs.Prelude.{◌≡◌};
-ghost use Rattle.days.specs.Asking.{is_none, request_of, lent_to, unasked_of, asked_outcome, asked_table, asked_page};
+ghost use Rattle.days.specs.Asking.{request_in, request_of, wanted, lent_to, unasked_of, asked_outcome, asked_table, asked_page};
 
 use dayfile::Reading;
 use memory::table;
 use snapshot::{Answer, Day, Outcome, Request};
 use unbounded::Process;
 
-// Whether no record was found.
-pub fn is_none(x: Reading) -> bool
-    ensures { result ≡ is_none x }
-{
-    match x {
-        Reading::Found { record: _, next: _ } => false,
-        Reading::End => true,
-        Reading::Refused(_) => true,
-    }
-}
-
 // The request that was found, if one was.
-pub fn request_of(x: Reading) -> Request
-    ensures { result ≡ request_of x }
+pub fn request_in(x: Reading) -> Option<Request>
+    ensures { result ≡ request_in x }
 {
     match x {
-        Reading::Found { record, next: _ } => record,
-        Reading::End => Request::Turn(0),
-        Reading::Refused(_) => Request::Turn(0),
+        Reading::Found { record, next: _ } => Some(record),
+        Reading::End => None,
+        Reading::Refused(_) => None,
     }
 }
 
-// How many records of the table are lent to a request: an opening's count, else the day's.
-pub fn lent_to(day: Day, x: Request) -> usize
-    ensures { result ≡ lent_to day x }
+// How many records a request wants: an opening's count, else the day's.
+fn wanted(day: Day, x: Request) -> u32
+    ensures { result ≡ wanted day x }
+{
+    match x {
+        Request::Open(count) => count,
+        _ => day.count,
+    }
+}
+
+// How many records of the table are lent to what was read: as many as it wants, and at most eight.
+pub fn lent_to(day: Day, x: Reading) -> usize
+    ensures { result ≡ lent_to day (request_of x) }
 {
     let n = match x {
-        Request::Open(count) => count,
-        Request::Update {
-            process: _,
-            word: _,
-        } => day.count,
-        Request::Scan(_) => day.count,
-        Request::Turn(_) => day.count,
+        Reading::Found { record, next: _ } => wanted(day, record),
+        _ => day.count,
     };
-    if n < 8 { n as usize } else { 8 }
+    n.min(8) as usize
 }
 
 // Nothing is asked: the day stays.
@@ -64,8 +58,8 @@ pub fn asked(day: Day, ps: &mut [Process], x: Reading, page: &mut [u32]) -> Outc
     ensures ps_after { ps.new ≡ asked_table day ps.old page.old x }
     ensures page_after { page.new ≡ asked_page day ps.old page.old x }
 {
-    if is_none(x) {
+    let Some(request) = request_in(x) else {
         return unasked(day);
-    }
-    table::step(day, ps, request_of(x), page)
+    };
+    table::step(day, ps, request, page)
 }

@@ -22,7 +22,7 @@ use Rattle.dayfile.specs.Reader.{record_of, reading}
 use Rattle.dayfile.specs.Pieces.{span_of, pieces_up_to, pieces}
 use Rattle.days.specs.Asking.{lent_to}
 use Rattle.mending.specs.Mending.{parts_of}
-use Rattle.mender.specs.declared.Mending.TheVariants.{Written, Refused}
+use Rattle.std.specs.Prelude.{Ok, Err}
 use Rattle.mender.specs.Results.{lacks_room, mending_of, kept_with, rows_with}
 
 -- an opening and a page call, between which a length of 0 is dropped
@@ -37,9 +37,9 @@ abbrev lent : List (List ℕ)
 lent = (1 ∷ 2 ∷ 3 ∷ []) ∷ (4 ∷ 5 ∷ 6 ∷ []) ∷ []
 
 pub rooms :
-    (mending_of broken 12 1 ≡ Written 12 1)
-    × (mending_of broken 11 1 ≡ Refused RoomShort)
-    × (mending_of broken 12 0 ≡ Refused RoomShort)
+    (mending_of broken 12 1 ≡ Ok (record { kept = 12; drops = 1 }))
+    × (mending_of broken 11 1 ≡ Err RoomShort)
+    × (mending_of broken 12 0 ≡ Err RoomShort)
     × (kept_with broken (replicate 13 170) 1 ≡ kept ++ (170 ∷ []))
     × (kept_with broken (replicate 11 170) 1 ≡ replicate 11 170)
     × (kept_with broken (replicate 13 170) 0 ≡ replicate 13 170)

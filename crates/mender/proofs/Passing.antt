@@ -1,5 +1,5 @@
--- A piece that is judged and kept or dropped is a pass of one part (`keeps-piece`, `drops-piece`), passes one after the other are one
--- (`pass-then`), and a pass to the end of a file, from its beginning on, is the whole (`all_done`).
+-- A piece that is judged and kept or dropped is a pass of one part (`keeps_piece`, `drops_piece`), passes one after the other are one
+-- (`pass_then`), and a pass to the end of a file, from its beginning on, is the whole (`all_done`).
 use Prim.Native.Nat.{ℕ, ◌+◌, ◌-◌, ◌≤◌, ◌<◌}
 use native.Mathlib.Omega.{arith}
 use native.Mathlib.Nat.{le_refl}

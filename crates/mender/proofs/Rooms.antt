@@ -1,4 +1,4 @@
--- Two rooms that are sure to be enough (`room-sure`), how much a pass keeps at most (`pass-short`), what a pass over a whole file leaves in
+-- Two rooms that are sure to be enough (`room_sure`), how much a pass keeps at most (`pass_short`), what a pass over a whole file leaves in
 -- two rooms (`whole_run`), and what mending answers and leaves by it.
 use Prim.Native.Nat.{ℕ, ◌+◌, ◌*◌, ◌/◌, ◌≤◌, ◌<◌}
 use native.Mathlib.Omega.{arith}
@@ -24,7 +24,7 @@ use Rattle.days.specs.Happenings.{Box, blank_box, box_after, outcome_in}
 use Rattle.packed_days.specs.Boxes.{box_in}
 use Rattle.packed_days.proofs.Blank.{blank_words, blank_box_lem}
 use Rattle.mender.specs.declared.Progress.{Progress}
-use Rattle.mender.specs.declared.Mending.TheVariants.{Written, Refused}
+use Rattle.std.specs.Prelude.{Ok, Err}
 use Rattle.mending.specs.Mending.{refusal_by, Part, judged, parts_of, bytes_kept, kept_of, Drop, drop_by, drops_of, mended, dropped}
 use Rattle.mender.specs.Results.{row_of, lacks_room, mending_of, at_front, kept_with, rows_with}
 use Rattle.mender.specs.Passes.{blank_progress, Stage, stage, parts_left, IsPass, IsPassUpTo, IsRun}
@@ -155,10 +155,10 @@ module _ (file room : List ℕ) (rows : List (List ℕ)) where
   abbrev lacks : Bool
   lacks = lacks_room file (length room) (length rows)
 
-  pub refused_whole : lacks ≡ true → (mending_of file (length room) (length rows) ≡ Refused RoomShort)
+  pub refused_whole : lacks ≡ true → (mending_of file (length room) (length rows) ≡ Err RoomShort)
       × (kept_with file room (length rows) ≡ room) × (rows_with file (length room) rows ≡ rows)
   refused_whole q = (
-    ap (λ b. cond b (Refused RoomShort) (Written (length (mended file)) (length (dropped file)))) q,
+    ap (λ b. cond b (Err RoomShort) (Ok (record { kept = length (mended file); drops = length (dropped file) }))) q,
     ap (λ b. cond b room (at_front (mended file) room)) q,
     ap (λ b. cond b rows (at_front (map row_of (dropped file)) rows)) q,
   )
@@ -170,13 +170,13 @@ module _ (file room : List ℕ) (rows : List (List ℕ)) where
         let both = or_neither (ltb (length room) (length (mended file))) (ltb (length rows) (length (dropped file))) q in
         (ltb-false _ _ both.0, ltb-false _ _ both.1)
 
-    pub written_all : (mending_of file (length room) (length rows) ≡ Written (length (mended file)) (length (dropped file)))
+    pub written_all : (mending_of file (length room) (length rows) ≡ Ok (record { kept = length (mended file); drops = length (dropped file) }))
         × (kept_with file room (length rows) ≡ sets room 0 (mended file))
         × (rows_with file (length room) rows ≡ sets rows 0 (map row_of (dropped file)))
     written_all =
         let many = length-map (dropped file) row_of in
         let few = fits in (
-          ap (λ b. cond b (Refused RoomShort) (Written (length (mended file)) (length (dropped file)))) q,
+          ap (λ b. cond b (Err RoomShort) (Ok (record { kept = length (mended file); drops = length (dropped file) }))) q,
           ap (λ b. cond b room (at_front (mended file) room)) q ∙ sym (front_stored (mended file) room few.0),
           ap (λ b. cond b rows (at_front (map row_of (dropped file)) rows)) q
               ∙ sym (front_stored (map row_of (dropped file)) rows (omega arith)),

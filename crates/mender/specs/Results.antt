@@ -1,8 +1,8 @@
 -- What mending a file answers and leaves in its two rooms (document 02, K7).
-use Rattle.std.specs.Prelude.{ℕ, Bool, cond, ◌||◌, List, [], ◌∷◌, ◌++◌, map, ltb, length, drop}
+use Rattle.std.specs.Prelude.{ℕ, Bool, cond, ◌||◌, Result, Ok, Err, List, [], ◌∷◌, ◌++◌, map, ltb, length, drop}
+use Rattle.snapshot.specs.declared.Refusal.{Refusal}
 use Rattle.snapshot.specs.declared.Refusal.TheVariants.{RoomShort}
-use Rattle.mender.specs.declared.Mending.{Mending}
-use Rattle.mender.specs.declared.Mending.TheVariants.{Written, Refused}
+use Rattle.mender.specs.declared.Mended.{Mended}
 use Rattle.mending.specs.Mending.{Drop, mended, dropped}
 
 -- a drop as it lies in a row: "first byte (from 0), byte count, refusal number"
@@ -14,9 +14,9 @@ unfoldable pub lacks_room : (file : List ℕ) → (room rows : ℕ) → Bool
 lacks_room file room rows = ltb room (length (mended file)) || ltb rows (length (dropped file))
 
 -- "the counts written are returned", or 12
-abbrev pub mending_of : (file : List ℕ) → (room rows : ℕ) → Mending
+abbrev pub mending_of : (file : List ℕ) → (room rows : ℕ) → Result Mended Refusal
 mending_of file room rows =
-    cond (lacks_room file room rows) (Refused RoomShort) (Written (length (mended file)) (length (dropped file)))
+    cond (lacks_room file room rows) (Err RoomShort) (Ok (record { kept = length (mended file); drops = length (dropped file) }))
 
 -- an output with these from its first place on; "later places remain"
 abbrev pub at_front : {A : Type 0} → (results output : List A) → List A

@@ -2,7 +2,7 @@
 // and a row for each drop into another: its first byte, its byte count and the number of its refusal.
 #![tactic(auto)]
 
-ghost use Rattle.std.specs.Prelude.{◌≡◌, not, map, ◌+◌, ◌^◌, ◌<◌, ◌≤◌, length, set};
+ghost use Rattle.std.specs.Prelude.{◌≡◌, not, map, ◌≤◌, length};
 ghost use Rattle.std.proofs.lemmas.List.Edits.{sets};
 ghost use Rattle.packed_rows.specs.Rows.{LongRows};
 ghost use Rattle.mending.specs.Mending.{mended, dropped};
@@ -12,11 +12,11 @@ ghost use Rattle.mender.specs.Passes.{blank_progress, stage, Steady, IsPass, IsP
 
 use snapshot::{Day, Refusal};
 
-// How many bytes are kept and how many pieces dropped; or why nothing was written.
-#[derive(Clone, Copy)]
-pub enum Mending {
-    Written { kept: usize, drops: usize },
-    Refused(Refusal),
+// How many bytes are kept, and how many pieces dropped.
+#[derive(Clone, Copy, Debug, PartialEq, Eq)]
+pub struct Mended {
+    pub kept: usize,
+    pub drops: usize,
 }
 
 // How far a file has come: the day, the place of the next byte, how many bytes are kept so far, and how many pieces dropped.
@@ -40,28 +40,13 @@ pub fn start() -> Progress
     }
 }
 
-// Lays bytes into a room from place `at` on, as far as it goes.
-fn lay(bytes: &[u8], room: &mut [u8], at: usize)
-    requires { at + length bytes.now < 2 ^ 64 }
-    ensures { room.new ≡ sets room.old at bytes.now }
+// Lays a part into a room from place `at` on, as far as the room goes.
+fn lay<T: Copy>(part: &[T], room: &mut [T], at: usize)
+    ensures { room.new ≡ sets room.old at part.now }
 {
-    let mut i = 0;
-    while i < bytes.len() {
-        let place = at + i;
-        if place < room.len() {
-            room[place] = bytes[i];
-        }
-        i += 1;
-    }
-}
-
-// Puts a row in its place, if there is one.
-fn put(row: [u64; 3], rows: &mut [[u64; 3]], at: usize)
-    ensures { rows.new ≡ set rows.old at row }
-{
-    if at < rows.len() {
-        rows[at] = row;
-    }
+    let first = at.min(room.len());
+    let fits = part.len().min(room.len() - first);
+    room[first..first + fits].copy_from_slice(&part[..fits]);
 }
 
 // The next piece: it is judged, and kept or dropped.
@@ -78,27 +63,27 @@ fn lap(
         (stage s t.old page.old room.old rows.old)
         (stage result t.new page.new room.new rows.new) }
 {
-    let at = s.at;
-    let day = s.day;
-    let j = mending::judge(at, day, bytes, t, page);
-    let after = j.day;
-    let span = j.span;
-    let end = at + span;
+    let j = mending::judge(s.at, s.day, bytes, t, page);
+    let end = s.at + j.span;
     if j.number == 0 {
-        lay(&bytes[at..end], room, s.kept);
+        lay(&bytes[s.at..end], room, s.kept);
         return Progress {
-            day: after,
+            day: j.day,
             at: end,
-            kept: s.kept + span,
-            drops: s.drops,
+            kept: s.kept + j.span,
+            ..s
         };
     }
-    put([at as u64, span as u64, j.number as u64], rows, s.drops);
+    lay(
+        &[[s.at as u64, j.span as u64, j.number as u64]],
+        rows,
+        s.drops,
+    );
     Progress {
-        day: after,
+        day: j.day,
         at: end,
-        kept: s.kept,
         drops: s.drops + 1,
+        ..s
     }
 }
 
@@ -118,10 +103,11 @@ pub fn pass(
         (stage result t.new page.new room.new rows.new) }
 {
     let mut p = s;
-    let mut i = 0;
-    while i < most && p.at < bytes.len() {
+    for _i in 0..most {
+        if bytes.len() <= p.at {
+            break;
+        }
         p = lap(p, bytes, t, page, room, rows);
-        i += 1;
     }
     p
 }
@@ -145,26 +131,24 @@ fn has_room(bytes: &[u8], places: usize, rows: usize) -> bool
     if bytes.len() <= places && bytes.len() / 2 < rows {
         return true;
     }
-    let mut no_room: [u8; 0] = [];
-    let mut no_rows: [[u64; 3]; 0] = [];
-    let counted = run(bytes, &mut no_room, &mut no_rows);
+    let counted = run(bytes, &mut [], &mut []);
     counted.kept <= places && counted.drops <= rows
 }
 
 // Mends a day file: lays the records that are kept into the room, and a row for each drop into the rows, each from the first place on,
 // and answers how many there are of both. Later places stay as they are. Where either has too few places, both stay whole, and it is
 // refused (12).
-pub fn mend(bytes: &[u8], room: &mut [u8], rows: &mut [[u64; 3]]) -> Mending
+pub fn mend(bytes: &[u8], room: &mut [u8], rows: &mut [[u64; 3]]) -> Result<Mended, Refusal>
     ensures value { result ≡ mending_of bytes.now (length room.old) (length rows.old) }
     ensures room_after { room.new ≡ kept_with bytes.now room.old (length rows.old) }
     ensures rows_after { rows.new ≡ rows_with bytes.now (length room.old) rows.old }
 {
     if !has_room(bytes, room.len(), rows.len()) {
-        return Mending::Refused(Refusal::RoomShort);
+        return Err(Refusal::RoomShort);
     }
     let done = run(bytes, room, rows);
-    Mending::Written {
+    Ok(Mended {
         kept: done.kept,
         drops: done.drops,
-    }
+    })
 }

@@ -12,9 +12,9 @@ ghost use Rattle.packed_runs.specs.Runs.{run_in};
 ghost use Rattle.packed_requests.specs.Requests.{reply_to, reply_in, table_in, page_in};
 ghost use Rattle.nq.specs.Requests.{version, run_reply, mending_numbers};
 
-use mender::Mending;
+use mender::Mended;
 use numbers::{RecordNumbers, ReplyNumbers};
-use snapshot::Day;
+use snapshot::{Day, Refusal};
 
 // How many bytes of a mended day file were written and how many drops, or the number of a refusal; 0 where there is none.
 #[repr(C)]
@@ -26,17 +26,17 @@ pub struct MendingNumbers {
 }
 
 // What mending a day file comes to.
-impl From<Mending> for MendingNumbers {
+impl From<Result<Mended, Refusal>> for MendingNumbers {
     ghost from_gives = { λ m n. n ≡ mending_numbers m };
 
-    fn from(m: Mending) -> MendingNumbers {
+    fn from(m: Result<Mended, Refusal>) -> MendingNumbers {
         match m {
-            Mending::Written { kept, drops } => MendingNumbers {
-                kept: kept as u64,
-                drops: drops as u64,
+            Ok(m) => MendingNumbers {
+                kept: m.kept as u64,
+                drops: m.drops as u64,
                 refusal: 0,
             },
-            Mending::Refused(k) => MendingNumbers {
+            Err(k) => MendingNumbers {
                 kept: 0,
                 drops: 0,
                 refusal: u32::from(k) as u64,

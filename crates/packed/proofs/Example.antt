@@ -1,5 +1,5 @@
 -- Where each word of a record lies, by an example against which other languages can be held: its numbers are their own places, but for
--- the kind of its task and the marks (`each-in-its-place`).
+-- the kind of its task and the marks (`each_in_its_place`).
 use Prim.Native.Nat.{ℕ, ◌+◌, ◌*◌}
 use mathlib.Core.Path.{◌≡◌, refl}
 use mathlib.Core.Bool.{true, false}

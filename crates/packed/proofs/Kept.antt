@@ -1,5 +1,5 @@
 -- The parts of a record are packed as they were unpacked (`by_parts`), and so are words that are as packing writes them
--- (`pack-unpacked`).
+-- (`pack_unpacked`).
 use Prim.Native.Nat.{ℕ, zero, suc, ◌+◌, ◌*◌}
 use native.Mathlib.Nat.{mul-zero}
 use native.Mathlib.Omega.{arith}

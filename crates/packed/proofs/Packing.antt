@@ -1,4 +1,4 @@
--- A record whose arrays have their eight places is unpacked as it was packed (`unpack-packed`).
+-- A record whose arrays have their eight places is unpacked as it was packed (`unpack_packed`).
 use Prim.Native.Nat.{ℕ, zero, suc, ◌+◌, ◌*◌, ◌<◌}
 use native.Mathlib.Nat.{mul-zero, not-suc-le-zero}
 use native.Mathlib.Omega.{arith}
@@ -60,16 +60,6 @@ module _ {A : Type 0} (P : A → Type 0) (m : ℕ) (pack : A → List ℕ) (long
         (ap (λ l. unpack_each unpack m (length xs) (drop m l)) past
         ∙ ap (unpack_each unpack m (length xs)) (drop_at (pack x) (packed ++ rest) m (long x h.0))
         ∙ unpack_each_lem xs rest h.1)
-
--- one part more
-pub unpack_more : {A : Type 0} (unpack : List ℕ → A) (m k : ℕ) (ws : List ℕ) →
-    unpack_each unpack m k ws ++ (unpack (drop (m * k) ws) ∷ []) ≡ unpack_each unpack m (suc k) ws
-unpack_more unpack m zero ws = ap (λ i. unpack (drop i ws) ∷ []) (mul-zero m)
-unpack_more unpack m (suc k) ws =
-    let e : m * suc k ≡ m + m * k = omega arith in
-    ap (λ l. unpack ws ∷ l)
-    (ap (λ l. unpack_each unpack m k (drop m ws) ++ (unpack l ∷ []))
-    (ap (λ i. drop i ws) e ∙ sym (drop-drop (m * k) m ws)) ∙ unpack_more unpack m k (drop m ws))
 
 -- ---- how many words each part takes
 

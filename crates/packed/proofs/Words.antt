@@ -1,8 +1,8 @@
--- Words one by one: eight of them read from a place on, and some stored there.
+-- Words one by one: so many of them read from a place on, and some stored there.
 use Prim.Native.Nat.{ℕ, zero, suc, ◌+◌, ◌≤◌, ◌<◌}
 use native.Mathlib.Nat.{add-zero, zero-add, not-suc-le-zero}
 use native.Mathlib.Omega.{arith}
-use mathlib.Core.Path.{◌≡◌, refl, sym, ap, ap₂, ◌∙◌}
+use mathlib.Core.Path.{◌≡◌, refl, sym, ap, ◌∙◌}
 use mathlib.Core.List.{List, [], ◌∷◌, ◌++◌, append-nil, append_assoc}
 use lib.ListN.{length, take, drop, set, take-append-drop, length-drop}
 use lib.Seq.{drop-drop, drop-length, get_or-drop, length-take-le, set-set, set_comm, sets, sets-eq}
@@ -23,28 +23,6 @@ words_append (suc a) b ws =
     let one : suc a ≡ 1 + a = omega arith in
     ap (λ l. word_at ws 0 ∷ (words a (drop 1 ws) ++ words b l)) (ap (λ k. drop k ws) one ∙ sym (drop-drop a 1 ws))
     ∙ ap (λ l. word_at ws 0 ∷ l) (words_append a b (drop 1 ws)) ∙ ap (λ k. words k ws) e
-
--- the words from place a + m on
-words_from_lem : (ws : List ℕ) (a k m : ℕ) → words (suc k) (drop (a + m) ws) ≡ word_at ws (a + m) ∷ words k (drop (a + suc m) ws)
-words_from_lem ws a k m =
-    let one : a + m + 1 ≡ a + suc m = omega arith in
-    ap₂ (λ w r. w ∷ r) (get_or-drop (a + m) ws 0 0 ∙ ap (word_at ws) (add-zero (a + m)))
-    (ap (words k) (drop-drop 1 (a + m) ws ∙ ap (λ i. drop i ws) one))
-
-pub eight_words : (ws : List ℕ) (a : ℕ) → words 8 (drop a ws)
-    ≡ word_at ws a ∷ word_at ws (a + 1) ∷ word_at ws (a + 2) ∷ word_at ws (a + 3)
-    ∷ word_at ws (a + 4) ∷ word_at ws (a + 5) ∷ word_at ws (a + 6) ∷ word_at ws (a + 7) ∷ []
-eight_words ws a =
-    let own = ap (λ i. words 8 (drop i ws)) (sym (add-zero a)) ∙ words_from_lem ws a 7 0 ∙ ap (λ i. word_at ws i ∷ words 7
-    (drop (a + 1) ws)) (add-zero a) in
-    own
-    ∙ ap (λ r. word_at ws a ∷ r) (words_from_lem ws a 6 1
-    ∙ ap (λ r. word_at ws (a + 1) ∷ r) (words_from_lem ws a 5 2
-    ∙ ap (λ r. word_at ws (a + 2) ∷ r) (words_from_lem ws a 4 3
-    ∙ ap (λ r. word_at ws (a + 3) ∷ r) (words_from_lem ws a 3 4
-    ∙ ap (λ r. word_at ws (a + 4) ∷ r) (words_from_lem ws a 2 5
-    ∙ ap (λ r. word_at ws (a + 5) ∷ r) (words_from_lem ws a 1 6
-    ∙ ap (λ r. word_at ws (a + 6) ∷ r) (words_from_lem ws a 0 7)))))))
 
 -- ---- stores
 

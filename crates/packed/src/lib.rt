@@ -7,8 +7,8 @@ ghost use Rattle.packed.specs.Packing.{word_at, words, unpack_value, unpack_view
 ghost use Rattle.packed.specs.Packing.{unpack_collect, unpack_mark, unpack_record};
 
 use snapshot::Value;
+use std::array;
 use unbounded::{Process, Register, Task};
-use unbounded_finds::collects;
 
 // Where each part of a record begins, and how many words a register takes.
 pub const TASK: usize = 20;
@@ -40,26 +40,17 @@ fn view_at(w: &[u32; 369], a: usize) -> [Value; 8]
     requires { a + 16 ≤ 369 }
     ensures { result ≡ unpack_view 8 (drop a w.now) }
 {
-    let none = Value { word: 0, last: 0 };
-    let mut vs = [none; 8];
-    let mut i = 0;
-    while i < 8 {
-        vs[i] = value_at(w, a + 2 * i);
-        i += 1;
-    }
-    vs
+    array::from_fn(|i| value_at(w, a + 2 * i))
 }
 
 fn register_at(w: &[u32; 369], a: usize) -> Register
     requires { a + 20 ≤ 369 }
     ensures { result ≡ unpack_register (drop a w.now) }
 {
-    let value = value_at(w, a);
-    let view = view_at(w, a + 3);
     Register {
-        value,
+        value: value_at(w, a),
         seq: w[a + 2],
-        view,
+        view: view_at(w, a + 3),
         at: w[a + 19],
     }
 }
@@ -90,22 +81,17 @@ pub fn at_in(w: &[u32; 369]) -> u32
     w[19]
 }
 
+// The kind stays a number: the words of a record cross to C, and there any number may stand for it.
 fn task_of(kind: u32, word: u32, at: u32, turns: u32) -> Task
     ensures { result ≡ task_of_kind kind word at turns }
 {
-    if kind == 0 {
-        return Task::Idle;
+    match kind {
+        0 => Task::Idle,
+        1 => Task::Scan { turns },
+        2 => Task::Update { word, turns },
+        3 => Task::Ready { word, at, turns },
+        _ => Task::Scan { turns: u32::MAX },
     }
-    if kind == 1 {
-        return Task::Scan { turns };
-    }
-    if kind == 2 {
-        return Task::Update { word, turns };
-    }
-    if kind == 3 {
-        return Task::Ready { word, at, turns };
-    }
-    Task::Scan { turns: 4294967295 }
 }
 
 pub fn task_in(w: &[u32; 369]) -> Task
@@ -118,14 +104,7 @@ fn collect_at(w: &[u32; 369], a: usize) -> [Register; 8]
     requires { a + 160 ≤ 369 }
     ensures { result ≡ unpack_collect 8 (drop a w.now) }
 {
-    let none = collects::no_register();
-    let mut rs = [none; 8];
-    let mut i = 0;
-    while i < 8 {
-        rs[i] = register_at(w, a + REGISTER * i);
-        i += 1;
-    }
-    rs
+    array::from_fn(|i| register_at(w, a + REGISTER * i))
 }
 
 // The end of the first collect.
@@ -142,45 +121,22 @@ pub fn view_in(w: &[u32; 369]) -> [Value; 8]
     view_at(w, VIEW)
 }
 
-fn marks_at(w: &[u32; 369], a: usize) -> [bool; 8]
-    requires { a + 8 ≤ 369 }
-    ensures { result ≡ map unpack_mark (words 8 (drop a w.now)) }
-{
-    [
-        w[a] != 0,
-        w[a + 1] != 0,
-        w[a + 2] != 0,
-        w[a + 3] != 0,
-        w[a + 4] != 0,
-        w[a + 5] != 0,
-        w[a + 6] != 0,
-        w[a + 7] != 0,
-    ]
-}
-
 pub fn marks_in(w: &[u32; 369]) -> [bool; 8]
     ensures { result ≡ map unpack_mark (words 8 (drop 361 w.now)) }
 {
-    marks_at(w, MARKS)
+    array::from_fn(|i| w[MARKS + i] != 0)
 }
 
 pub fn record_in(w: &[u32; 369]) -> Process
     ensures { result ≡ unpack_record w.now }
 {
-    let register = register_at(w, 0);
-    let task = task_in(w);
-    let first = collect_at(w, FIRST);
-    let second = collect_at(w, SECOND);
-    let first_end = end_in(w);
-    let view = view_in(w);
-    let moved = marks_in(w);
     Process {
-        register,
-        task,
-        first,
-        second,
-        first_end,
-        view,
-        moved,
+        register: own_in(w),
+        task: task_in(w),
+        first: collect_at(w, FIRST),
+        second: collect_at(w, SECOND),
+        first_end: end_in(w),
+        view: view_in(w),
+        moved: marks_in(w),
     }
 }

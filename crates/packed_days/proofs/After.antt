@@ -1,13 +1,13 @@
--- What asking a record leaves of a box whose records lie as words: that of the box after it (`asked-after`), and where no record was
--- found, all of it (`unread-after`).
+-- What asking a record leaves of a box whose records lie as words: that of the box after it (`asked_after`), and where no record was
+-- found, all of it (`unread_after`).
 use Prim.Native.Nat.{ℕ, zero, suc, ◌≤◌}
 use native.Mathlib.Omega.{arith}
 use mathlib.Core.Path.{◌≡◌, refl, sym, ap, ap₂, ◌∙◌, subst}
-use mathlib.Core.Bool.{true, false}
 use mathlib.Core.List.{List, [], ◌∷◌, ◌++◌}
 use lib.Dec.{T}
 use lib.ListN.{length, take, drop}
 use lib.Seq.{length-take-le}
+use Rattle.std.specs.Prelude.{Some, None}
 use Rattle.snapshot.specs.Demand.{Result}
 use Rattle.snapshot.specs.Replies.{reply_of}
 use Rattle.snapshot.specs.Days.{State}
@@ -25,7 +25,7 @@ use Rattle.packed.specs.Packing.{unpack_record}
 use Rattle.packed_rows.specs.Rows.{unpacked_all, LongRows}
 use Rattle.packed_table.specs.Tables.{table_after, stepped_in}
 use Rattle.packed_table.proofs.Chained.{unpacked_after, long_after}
-use Rattle.days.specs.Asking.{is_none, request_of, lent_to, unasked_of}
+use Rattle.days.specs.Asking.{is_none, request_in, request_of, lent_to, unasked_of}
 use Rattle.days.specs.Happenings.{Box, outcome_in}
 use Rattle.days.proofs.Boxes.{unread_stays}
 use Rattle.days.proofs.Kept.{lent_to_le}
@@ -78,15 +78,15 @@ module _ (d : Day) (t : List (List ℕ)) (page : List ℕ) (long : LongRows t) w
   abbrev b : Box
   b = box_in d t page
 
-  pub unread_after : (x : Reading) → is_none x ≡ true → (o : Outcome) → o ≡ unasked_of d →
+  pub unread_after : (x : Reading) → request_in x ≡ None → (o : Outcome) → o ≡ unasked_of d →
       (o ≡ outcome_in b x) × IsAfter x b o.day t page
   unread_after x none o is = go x none
     where
       after : (x : Reading) → T (is_none x) → IsAfter x b o.day t page
       after x none = record { box = ap (λ q. box_in q.day t page) is ∙ sym (unread_stays b x none); long = long }
 
-      go : (x : Reading) → is_none x ≡ true → (o ≡ outcome_in b x) × IsAfter x b o.day t page
-      go (Found r next) q = absurd (subst T (sym q) tt)
+      go : (x : Reading) → request_in x ≡ None → (o ≡ outcome_in b x) × IsAfter x b o.day t page
+      go (Found r next) q = let z : ◌≡◌ {A = ℕ} 0 1 = cc in absurd (omega arith)
       go End q = (is, after End tt)
       go (Refused k) q = (is, after (Refused k) tt)
 
@@ -117,19 +117,19 @@ module _ (d : Day) (t : List (List ℕ)) (page : List ℕ) (long : LongRows t) w
         )
 
   -- as the code finds it
-  pub asked_after : (x : Reading) → is_none x ≡ false → (q : Request) → q ≡ request_of x → (m : ℕ) → m ≡ lent_to d q →
+  pub asked_after : (x : Reading) (q : Request) → request_in x ≡ Some q → (m : ℕ) → m ≡ lent_to d (request_of x) →
       let result = stepped_in d (take m t) q page in
       (o : Outcome) → o ≡ outcome_of result → (lent : List (List ℕ)) → lent ≡ table_after (take m t) q result →
       (shown : List ℕ) → shown ≡ page_after page result q →
       (o ≡ outcome_in b x) × IsAfter x b o.day (lent ++ drop m t) shown
-  asked_after (Found r next) found q q-is m m-is o told lent left shown shows =
-      let k = m-is ∙ ap (lent_to d) q-is in
+  asked_after (Found r next) q found m k o told lent left shown shows =
+      let q-is : q ≡ r = cc in
       subst (λ j. (o ≡ outcome_in b (Found r next)) × IsAfter (Found r next) b o.day (lent ++ drop j t) shown) (sym k)
       (record_after r next o (told ∙ (λ i. outcome_of (stepped_in d (take (k i) t) (q-is i) page))) lent
       (left ∙ (λ i. table_after (take (k i) t) (q-is i) (stepped_in d (take (k i) t) (q-is i) page))) shown
       (shows ∙ (λ i. page_after page (stepped_in d (take (k i) t) (q-is i) page) (q-is i))))
-  asked_after End found q q-is m m-is o told lent left shown shows = absurd (subst T found tt)
-  asked_after (Refused k) found q q-is m m-is o told lent left shown shows = absurd (subst T found tt)
+  asked_after End q found m k o told lent left shown shows = let z : ◌≡◌ {A = ℕ} 0 1 = cc in absurd (omega arith)
+  asked_after (Refused e) q found m k o told lent left shown shows = let z : ◌≡◌ {A = ℕ} 0 1 = cc in absurd (omega arith)
 
 -- and where the outcome is replied by numbers
 pub replied_by : {x : Reading} {b : Box} {o : Outcome} {t : List (List ℕ)} {page : List ℕ} →

@@ -17,11 +17,10 @@ pub fn asked(day: Day, t: &mut [[u32; 369]], x: Reading, page: &mut [u32]) -> Ou
     ensures value { result ≡ outcome_in (box_in day t.old page.old) x }
     ensures after { IsAfter x (box_in day t.old page.old) result.day t.new page.new }
 {
-    if days::is_none(x) {
+    let Some(request) = days::request_in(x) else {
         return days::unasked(day);
-    }
-    let request = days::request_of(x);
-    let n = days::lent_to(day, request);
+    };
+    let n = days::lent_to(day, x);
     packed_table::step(day, &mut t[..n], request, page)
 }
 
@@ -30,11 +29,10 @@ pub fn replied(day: Day, t: &mut [[u32; 369]], x: Reading, page: &mut [u32]) -> 
     requires { (length t.old ≡ 8) × LongRows t.old }
     ensures { IsReplied x (box_in day t.old page.old) result t.new page.new }
 {
-    if days::is_none(x) {
+    let Some(request) = days::request_in(x) else {
         return numbers::reply_of(days::unasked(day));
-    }
-    let request = days::request_of(x);
-    let n = days::lent_to(day, request);
+    };
+    let n = days::lent_to(day, x);
     let q = numbers::request_numbers(request, 0);
     packed_requests::asked(day, &mut t[..n], q.kind, q.process, q.word, page)
 }

@@ -1,13 +1,14 @@
--- What stored parts come to: a register with all values of its view is packed there (`stored-whole`), and the parts of a record, one
--- after the other, the record (`sets-record`). A register stored over another is laid over it (`stored_here`), and so in its place of
--- a collect (`stored-place`).
+-- What stored parts come to: a register with all values of its view is packed there (`stored_whole`), and the parts of a record, one
+-- after the other, the record (`sets_record`). A register stored over another is laid over it (`stored_here`), and so in its place of
+-- a collect (`stored_place`).
 use Prim.Native.Nat.{ℕ, zero, suc, ◌+◌, ◌*◌, ◌<◌, ◌≤◌}
 use native.Mathlib.Nat.{zero-add, not-suc-le-zero}
 use native.Mathlib.Omega.{arith}
 use mathlib.Core.Path.{◌≡◌, refl, sym, ap, ◌∙◌}
 use mathlib.Core.List.{List, [], ◌∷◌, ◌++◌, map, append_assoc, append-nil}
 use lib.ListN.{length, get_or, take, drop, set, take-append-drop}
-use lib.Seq.{sets, take_all, drop_at, length-take-le}
+use lib.Seq.{sets, sets-eq, take_all, drop_at, drop-drop, length-take-le}
+use borrow.Rule.Slice.PartMut.{put_mid}
 use Rattle.snapshot.specs.Lists.{over}
 use Rattle.snapshot.proofs.Lists.{length_over}
 use Rattle.snapshot.specs.declared.Value.{Value}
@@ -28,6 +29,13 @@ stored_whole ws r a e =
     let long = eight_long r.view e in
     ap (λ v. sets (sets ws a (head v)) (a + 19) (r.at ∷ [])) (take_all 8 r.view (omega (arith, e)))
     ∙ sym (sets_next ws a (head r.view) (r.at ∷ []) (a + 19) (omega (arith, long)))
+
+-- words copied over as many that are there
+pub copied_over : (ws us vs : List ℕ) (a k : ℕ) → us ≡ vs → length vs ≡ k → a + k ≤ length ws → put_mid a k ws us ≡ sets ws a vs
+copied_over ws us vs a k c e h =
+    (λ i. take a ws ++ (c i ++ (drop-drop k a ws ∙ ap (λ j. drop (a + j) ws) (sym e)) i))
+    ∙ sym (append_assoc (take a ws) vs (drop (a + length vs) ws))
+    ∙ sym (sets-eq vs ws a (omega (arith, e, h)))
 
 -- one part more, of parts that are packed one after the other
 pub chained_more : {A : Type 0} (pack : A → List ℕ) (none : A) (xs : List A) (i : ℕ) → i < length xs →

@@ -14,12 +14,9 @@ fn lay_view(w: &mut [u32; 369], a: usize, n: usize, v: [Value; 8])
     requires { (a + 16 ≤ 369) × (n ≤ 8) }
     ensures { w.new ≡ sets w.old a (pack_view (take n v)) }
 {
-    let mut i = 0;
-    while i < n {
-        let x = v[i];
+    for (i, x) in v[..n].iter().enumerate() {
         w[a + 2 * i] = x.word;
         w[a + 2 * i + 1] = x.last;
-        i += 1;
     }
 }
 
@@ -29,12 +26,8 @@ fn lay_register(w: &mut [u32; 369], a: usize, n: usize, r: Register)
     ensures w_after { w.new ≡ stored_at n r a w.old }
     ensures view_len { length r.view ≡ 8 }
 {
-    let x = r.value;
-    let v = r.view;
-    w[a] = x.word;
-    w[a + 1] = x.last;
-    w[a + 2] = r.seq;
-    lay_view(w, a + 3, n, v);
+    w[a..a + 3].copy_from_slice(&[r.value.word, r.value.last, r.seq]);
+    lay_view(w, a + 3, n, r.view);
     w[a + 19] = r.at;
 }
 
@@ -46,26 +39,16 @@ pub fn lay_own(w: &mut [u32; 369], r: Register)
     lay_register(w, 0, 8, r)
 }
 
-// Four words.
-fn lay_four(w: &mut [u32; 369], a: usize, kind: u32, word: u32, at: u32, turns: u32)
-    requires { a + 4 ≤ 369 }
-    ensures { w.new ≡ sets w.old a (kind ∷ word ∷ at ∷ turns ∷ []) }
-{
-    w[a] = kind;
-    w[a + 1] = word;
-    w[a + 2] = at;
-    w[a + 3] = turns;
-}
-
 pub fn lay_task(w: &mut [u32; 369], k: Task)
     ensures { w.new ≡ sets w.old 20 (pack_task k) }
 {
-    match k {
-        Task::Idle => lay_four(w, TASK, 0, 0, 0, 0),
-        Task::Scan { turns } => lay_four(w, TASK, 1, 0, 0, turns),
-        Task::Update { word, turns } => lay_four(w, TASK, 2, word, 0, turns),
-        Task::Ready { word, at, turns } => lay_four(w, TASK, 3, word, at, turns),
-    }
+    let words = match k {
+        Task::Idle => [0; 4],
+        Task::Scan { turns } => [1, 0, 0, turns],
+        Task::Update { word, turns } => [2, word, 0, turns],
+        Task::Ready { word, at, turns } => [3, word, at, turns],
+    };
+    w[TASK..FIRST].copy_from_slice(&words);
 }
 
 // Register r, with the first n values of its view, read into a place of the collects: those of the first are 0 to 7, of the second 8 to
@@ -98,43 +81,25 @@ fn lay_collect(w: &mut [u32; 369], a: usize, rs: [Register; 8])
     ensures w_after { w.new ≡ sets w.old a (pack_collect rs) }
     ensures rs_len { length (pack_collect rs) ≡ 160 }
 {
-    let mut i = 0;
-    while i < 8 {
-        lay_register(w, a + REGISTER * i, 8, rs[i]);
-        i += 1;
+    for (i, r) in rs.iter().enumerate() {
+        lay_register(w, a + REGISTER * i, 8, *r);
     }
-}
-
-fn mark_word(m: bool) -> u32
-    ensures { result ≡ pack_mark m }
-{
-    if m { 1 } else { 0 }
 }
 
 pub fn lay_marks(w: &mut [u32; 369], ms: [bool; 8])
     ensures { w.new ≡ sets w.old 361 (map pack_mark ms) }
 {
-    let mut i = 0;
-    while i < 8 {
-        w[MARKS + i] = mark_word(ms[i]);
-        i += 1;
-    }
+    w[MARKS..].copy_from_slice(&ms.map(u32::from));
 }
 
 pub fn lay_record(w: &mut [u32; 369], p: Process)
     ensures { w.new ≡ sets w.old 0 (pack_record p) }
 {
-    let register = p.register;
-    let task = p.task;
-    let first = p.first;
-    let second = p.second;
-    let view = p.view;
-    let moved = p.moved;
-    lay_own(w, register);
-    lay_task(w, task);
-    lay_collect(w, FIRST, first);
-    lay_collect(w, SECOND, second);
+    lay_own(w, p.register);
+    lay_task(w, p.task);
+    lay_collect(w, FIRST, p.first);
+    lay_collect(w, SECOND, p.second);
     lay_end(w, p.first_end);
-    lay_kept(w, 8, view);
-    lay_marks(w, moved);
+    lay_kept(w, 8, p.view);
+    lay_marks(w, p.moved);
 }

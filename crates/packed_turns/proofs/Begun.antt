@@ -1,4 +1,4 @@
--- The words that `begin` leaves are those of the record with a task and nothing collected (`begun-words`).
+-- The words that `begin` leaves are those of the record with a task and nothing collected (`begun_words`).
 use Prim.Native.Nat.{ℕ, zero, suc, ◌+◌, ◌*◌, ◌≤◌}
 use native.Mathlib.Omega.{arith}
 use native.Mathlib.Numerals.{add-one}

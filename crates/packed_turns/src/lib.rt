@@ -30,11 +30,9 @@ pub fn begin(w: &mut [u32; 369], a: Access, k: Task)
     packed_stores::lay_marks(w, [false; 8]);
     packed_stores::lay_end(w, 0);
     packed_stores::lay_kept(w, n, [unwritten; 8]);
-    let mut i = 0;
-    while i < n {
+    for i in 0..n {
         packed_stores::lay_place(w, i, n, none);
         packed_stores::lay_place(w, 8 + i, n, none);
-        i += 1;
     }
 }
 

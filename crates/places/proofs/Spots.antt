@@ -1,14 +1,19 @@
 -- Putting a place among others, from the end: where it belongs, and making room for it; and a word of the first n.
-use Prim.Native.Nat.{ℕ, zero, suc, ◌+◌, ◌-◌, ◌≤◌, ◌<◌}
+use Prim.Native.Nat.{ℕ, zero, suc, ◌+◌, ◌-◌, ◌≤◌, ◌<◌, min}
 use native.Mathlib.Omega.{arith}
+use native.Mathlib.Decide.{dec_lt}
 use mathlib.Core.Path.{◌≡◌, refl, sym, ap, ap₂, ◌∙◌, subst}
+use mathlib.Core.Logic.{by_cases}
 use mathlib.Core.Bool.{Bool, true, false, cond}
 use mathlib.Core.List.{List, [], ◌∷◌, ◌++◌, append_assoc}
 use lib.Dec.{leb}
-use lib.ListN.{length, get_or, set, take, drop, take-append-drop, length-append, length-set}
-use lib.Seq.{take-take, take-append-le, take-set-le, drop-cons, drop_at, drop-length, set_split, length-take-le, get_or-take}
+use lib.ListN.{length, get_or, set, take, drop, replicate, length-append, length-drop, get_or-append, get_or-replicate}
+use lib.Seq.{ext_get_or, get_or-drop, get_or-append_right, take-take, take-append-le, drop_at, set_split, length-take-le, get_or-take}
 use borrow.Author.Tests.{le-leb, lt-leb}
-use Rattle.places.specs.Places.{spot_in, room_in, put_in}
+use Rattle.std.specs.List.{copy_within}
+use Rattle.std.proofs.lemmas.Slice.{between_is}
+use Rattle.snapshot.proofs.Lists.{get_d_each}
+use Rattle.places.specs.Places.{eight, spot_in, put_in}
 
 -- ---- where it belongs
 
@@ -32,68 +37,16 @@ module _ (k : ℕ) (book : List (List ℕ)) where
 
 -- ---- making room
 
--- the places from j up to count of old have moved up by one
-pub record MovedTo (old : List (List ℕ)) (count : ℕ) (book : List (List ℕ)) (j : ℕ) : Type 0 where
-  pub few : j ≤ count
-  pub long : length book ≡ length old
-  pub before : take (j + 1) book ≡ take (j + 1) old
-  pub behind : drop (j + 1) book ≡ drop j (take count old) ++ drop (count + 1) old
-
 module _ (old : List (List ℕ)) (count : ℕ) (fits : count < length old) where
-  first_long : length (take count old) ≡ count
-  first_long = length-take-le count old (omega (arith, fits))
-
-  pub moved_none : MovedTo old count old count
-  moved_none =
-      record {
-        few = omega arith;
-        long = refl;
-        before = refl;
-        behind = ap (λ l. l ++ drop (count + 1) old) (sym (ap (λ k. drop k (take count old)) (sym first_long) ∙ drop-length (take count old)));
-      }
-
-  module _ (book : List (List ℕ)) (j : ℕ) (m : MovedTo old count book j) where
-    -- the place that moves is one that has not moved yet
-    moves : 0 < j → get_or book (j - 1) [] ≡ get_or (take count old) (j - 1) []
-    moves z =
-        let few = m.few in
-        sym (get_or-take (j + 1) book (j - 1) [] (omega arith)) ∙ ap (λ l. get_or l (j - 1) []) m.before
-        ∙ get_or-take (j + 1) old (j - 1) [] (omega arith) ∙ sym (get_or-take count old (j - 1) [] (omega (arith, few, z)))
-
-    pub moved_one : 0 < j → MovedTo old count (set book j (get_or book (j - 1) [])) (j - 1)
-    moved_one z =
-        let v = get_or book (j - 1) [] in
-        let few = m.few in
-        let long = m.long in
-        let e : j - 1 + 1 ≡ j = omega (arith, z) in
-        record {
-          few = omega (arith, few);
-          long = length-set book j v ∙ long;
-          before = ap (λ k. take k (set book j v)) e ∙ take-set-le j book j v (omega arith) ∙ sym (take-take j (j + 1) book (omega arith))
-              ∙ ap (take j) m.before ∙ take-take j (j + 1) old (omega arith) ∙ ap (λ k. take k old) (sym e);
-          behind = ap (λ k. drop k (set book j v)) e ∙ ap (drop j) (set_split book j v (omega (arith, few, long, fits)))
-              ∙ drop_at (take j book) (v ∷ drop (suc j) book) j (length-take-le j book (omega (arith, few, long, fits)))
-              ∙ ap (λ k. v ∷ drop k book) (let f : suc j ≡ j + 1 = omega arith in f)
-              ∙ ap₂ {C = List (List ℕ)} (λ x l. x ∷ l) (moves z) m.behind
-              ∙ ap (λ k. get_or (take count old) (j - 1) [] ∷ drop k (take count old) ++ drop (count + 1) old)
-              (let f : j ≡ suc (j - 1) = omega (arith, z) in f)
-              ∙ ap (λ l. l ++ drop (count + 1) old) (sym (drop-cons (take count old) (j - 1) [] (omega (arith, first_long, few, z))));
-        }
-
-    pub moved_all : book ≡ room_in old j count
-    unfolding room_in
-    moved_all =
-        sym (take-append-drop (j + 1) book) ∙ ap₂ {C = List (List ℕ)} (λ x y. x ++ y) m.before m.behind
-        ∙ sym (append_assoc (take (j + 1) old) (drop j (take count old)) (drop (count + 1) old))
-
-  -- the place is stored where there is room for it
+  -- the places from i up to count moved up by one, and one stored where there is room for it
   pub stored : (i : ℕ) (place : List ℕ) → i ≤ count →
-      set (room_in old i count) i place ≡ take i old ++ (place ∷ drop i (take count old)) ++ drop (count + 1) old
-  unfolding room_in
+      set (copy_within old i count (i + 1)) i place ≡ take i old ++ (place ∷ drop i (take count old)) ++ drop (count + 1) old
   stored i place l =
+      let behind : i + 1 + (count - i) ≡ count + 1 = omega (arith, l) in
       let rest = drop i (take count old) ++ drop (count + 1) old in
       let long = length-take-le (i + 1) old (omega (arith, l, fits)) in
-      ap (λ x. set x i place) (append_assoc (take (i + 1) old) (drop i (take count old)) (drop (count + 1) old))
+      (λ t. set (take (i + 1) old ++ between_is old i count t ++ drop (behind t) old) i place)
+      ∙ ap (λ x. set x i place) (append_assoc (take (i + 1) old) (drop i (take count old)) (drop (count + 1) old))
       ∙ set_split (take (i + 1) old ++ rest) i place (simp length-append (omega (arith, long)))
       ∙ ap₂ {C = List (List ℕ)} (λ x y. x ++ place ∷ y)
       (take-append-le i (take (i + 1) old) rest (omega (arith, long)) ∙ take-take i (i + 1) old (omega arith))
@@ -102,17 +55,40 @@ module _ (old : List (List ℕ)) (count : ℕ) (fits : count < length old) where
 
 -- ---- a word of the first n, or 0
 
-pub word_past_n : (n i : ℕ) (ws : List ℕ) → n ≤ i → get_or (take n ws) i 0 ≡ 0
+word_past_n : (n i : ℕ) (ws : List ℕ) → n ≤ i → get_or (take n ws) i 0 ≡ 0
 word_past_n zero i ws l = refl
 word_past_n (suc n) i [] l = refl
 word_past_n (suc n) zero (w ∷ ws) l = absurd (omega (arith, l))
 word_past_n (suc n) (suc i) (w ∷ ws) l = word_past_n n i ws (omega (arith, l))
 
-pub word_past_end : (n i : ℕ) (ws : List ℕ) → length ws ≤ i → get_or (take n ws) i 0 ≡ 0
+word_past_end : (n i : ℕ) (ws : List ℕ) → length ws ≤ i → get_or (take n ws) i 0 ≡ 0
 word_past_end zero i ws l = refl
 word_past_end (suc n) i [] l = refl
 word_past_end (suc n) zero (w ∷ ws) l = absurd (omega (arith, l))
 word_past_end (suc n) (suc i) (w ∷ ws) l = word_past_end n i ws (omega (arith, l))
+
+word_past : (n i : ℕ) (ws : List ℕ) → min n (length ws) ≤ i → get_or (take n ws) i 0 ≡ 0
+word_past n i ws h = by_cases (dec_lt i n) (λ l. word_past_end n i ws (omega (arith, h, l))) (λ l. word_past_n n i ws (omega (arith, l)))
+
+-- the first n of eight words, and zeros behind them
+pub eight_shown : (n : ℕ) (ws : List ℕ) → let k = min (min n 8) (length ws) in take k ws ++ drop k (replicate 8 0) ≡ eight (take n ws)
+eight_shown n ws = go (min (min n 8) (length ws)) refl
+  where
+    go : (k : ℕ) → min (min n 8) (length ws) ≡ k → take k ws ++ drop k (replicate 8 0) ≡ eight (take n ws)
+    go k e =
+        let long = length-take-le k ws (omega (arith, e)) in
+        let all : length (take k ws ++ drop k (replicate 8 0)) ≡ 8 = simp (length-append, length-drop) (omega (arith, long, e)) in
+        ext_get_or 0 (take k ws ++ drop k (replicate 8 0)) (eight (take n ws)) all
+        (λ i l.
+        let below : i < 8 = omega (arith, l, all) in
+        by_cases (dec_lt i k)
+        (λ h. get_or-append (take k ws) (drop k (replicate 8 0)) 0 i (omega (arith, long, h))
+        ∙ get_or-take k ws i 0 h ∙ sym (get_or-take n ws i 0 (omega (arith, e, h))))
+        (λ h. get_or-append_right (take k ws) (drop k (replicate 8 0)) i 0 (omega (arith, long, h))
+        ∙ get_or-drop k (replicate 8 0) (i - length (take k ws)) 0
+        ∙ get_or-replicate 8 (k + (i - length (take k ws))) 0 0 (omega (arith, long, h, below))
+        ∙ sym (word_past n i ws (omega (arith, e, h, below))))
+        ∙ sym (get_d_each 8 (λ i. get_or (take n ws) i 0) i 0 below))
 
 -- ---- the whole of `put_in`
 
@@ -130,9 +106,9 @@ module _ (place : List ℕ) (count : ℕ) (book : List (List ℕ)) where
   put_nowhere l = sym (rw (le-leb (length book) count l))
 
   pub put_there : (i : ℕ) (after : List (List ℕ)) → count < length book → i ≡ spot_in (get_or place 0 0) book count →
-      after ≡ room_in book i count → set after i place ≡ put_in place count book
+      after ≡ copy_within book i count (i + 1) → set after i place ≡ put_in place count book
   unfolding put_in
   put_there i after l e q =
-      ap₂ (λ x j. set x j place) (q ∙ ap (λ j. room_in book j count) e) e
+      ap₂ (λ x j. set x j place) (q ∙ ap (λ j. copy_within book j count (j + 1)) e) e
       ∙ stored book count l (spot_in (get_or place 0 0) book count) place (spot_few (get_or place 0 0) book count)
       ∙ sym (rw (lt-leb (length book) count l))

@@ -13,10 +13,6 @@ abbrev pub spot_in : ℕ → List (List ℕ) → ℕ → ℕ
 spot_in k book zero = 0
 spot_in k book (suc i) = cond (leb (get_or (get_or book i []) 0 0) k) (suc i) (spot_in k book i)
 
--- the places from i up to count moved up by one; that at i stays too
-unfoldable pub room_in : List (List ℕ) → ℕ → ℕ → List (List ℕ)
-room_in book i count = take (i + 1) book ++ drop i (take count book) ++ drop (count + 1) book
-
 -- a place put where it belongs among the first so many; a book that has no more places stays as it is
 unfoldable pub put_in : List ℕ → ℕ → List (List ℕ) → List (List ℕ)
 put_in place count book =

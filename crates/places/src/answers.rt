@@ -8,28 +8,20 @@ use snapshot::{Answer, Outcome, Request};
 fn word_of(words: [u32; 8], process: u32) -> u32
     ensures { result ≡ word_of words process }
 {
-    if process < 1 {
-        return 0;
+    match process {
+        1..=8 => words[(process - 1) as usize],
+        _ => 0,
     }
-    if 8 < process {
-        return 0;
-    }
-    words[(process - 1) as usize]
 }
 
 // The words once a process's is another.
-fn with_word(words: [u32; 8], process: u32, word: u32) -> [u32; 8]
+fn with_word(mut words: [u32; 8], process: u32, word: u32) -> [u32; 8]
     ensures { result ≡ words_with words process word }
 {
-    if process < 1 {
-        return words;
+    if let 1..=8 = process {
+        words[(process - 1) as usize] = word;
     }
-    if 8 < process {
-        return words;
-    }
-    let mut after = words;
-    after[(process - 1) as usize] = word;
-    after
+    words
 }
 
 // The words after a request and its answer.
@@ -39,12 +31,10 @@ pub fn words_after(words: [u32; 8], r: Request, a: Answer) -> [u32; 8]
     let Answer::Called = a else {
         return words;
     };
-    match r {
-        Request::Open(_) => words,
-        Request::Update { process, word } => with_word(words, process, word),
-        Request::Scan(_) => words,
-        Request::Turn(_) => words,
-    }
+    let Request::Update { process, word } = r else {
+        return words;
+    };
+    with_word(words, process, word)
 }
 
 // Puts what an answer finishes in the book, if it finishes something, and answers how many operations are finished then.
@@ -64,31 +54,11 @@ pub fn finished(
 {
     let process = snapshot::number_in(r);
     let day = o.day;
-    let answer = o.answer;
-    match answer {
-        Answer::Refused(_) => count,
-        Answer::Opened => count,
-        Answer::Called => count,
-        Answer::Read => count,
-        Answer::Page {
-            lender: _,
-            at,
-            turns: _,
-        } => {
-            crate::put(
-                crate::page(at, process, page, day.count as usize),
-                book,
-                count,
-            );
-            count + 1
-        }
-        Answer::Written { turns: _ } => {
-            crate::put(
-                crate::entry(day.event, process, word_of(words, process)),
-                book,
-                count,
-            );
-            count + 1
-        }
-    }
+    let place = match o.answer {
+        Answer::Page { at, .. } => crate::page(at, process, page, day.count as usize),
+        Answer::Written { .. } => crate::entry(day.event, process, word_of(words, process)),
+        _ => return count,
+    };
+    crate::put(place, book, count);
+    count + 1
 }

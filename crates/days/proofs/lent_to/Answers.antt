@@ -1,33 +1,31 @@
--- As many records as were asked for, whatever was, and at most eight.
-use Prim.Native.Nat.{◌≤◌, ◌<◌}
-use mathlib.Core.Path.{◌≡◌, sym, ap, subst, ◌∙◌}
+-- `days::lent_to` meets its contract: as many records as are wanted, and at most eight.
+use Prim.Native.Nat.{ℕ, min}
+use native.Mathlib.Omega.{arith}
+use native.Mathlib.Decide.{dec_lt}
+use native.Mathlib.Nat.{min-eq_left, min-eq_right}
+use mathlib.Core.Logic.{by_cases}
+use mathlib.Core.Path.{◌≡◌, sym, ap, ◌∙◌}
+use mathlib.Core.Bool.{cond}
+use lib.Dec.{ltb}
 use borrow.Author.Tests.{lt-ltb, le-ltb}
-use Rattle.days.specs.Asking.{wanted, lent_to}
+use Rattle.days.specs.Asking.{request_of, wanted, lent_to}
+use Rattle.days.proofs.Kept.{nothing_wanted}
 use Rattle.days.proofs.lent_to.Goals as goal
-use Rattle.days.proofs.lent_to.Goals.{in-Open, in-Update, in-Scan, in-Turn}
+use Rattle.days.proofs.lent_to.Goals.{in-Found, in_default}
 
-pub returns-then-n-lt8 : goal.returns-then-n-lt8
-unfolding lent_to
-returns-then-n-lt8 c =
-    let to = wanted c.args.day in
-    let e : c.match-x.n ≡ wanted c.args.day c.args.x =
-    elim c.match-x.branch [
-      | in-Open w ↦ w.n-is ∙ sym (ap to w.in-Open.is)
-      | in-Update w ↦ w.n-is ∙ sym (ap to w.in-Update.is)
-      | in-Scan w ↦ w.n-is ∙ sym (ap to w.in-Scan.is)
-      | in-Turn w ↦ w.n-is ∙ sym (ap to w.in-Turn.is)
-    ] in
-    e ∙ sym (rw (lt-ltb _ 8 (subst (λ n. n < 8) e c.if-n-lt8.true)))
+at_most : (n : ℕ) → min n 8 ≡ cond (ltb n 8) n 8
+at_most n =
+    by_cases (dec_lt n 8)
+    (λ h. min-eq_left (omega (arith, h)) ∙ sym (ap (λ b. cond b n 8) (lt-ltb n 8 h)))
+    (λ h. min-eq_right (omega (arith, h)) ∙ sym (ap (λ b. cond b n 8) (le-ltb n 8 (omega (arith, h)))))
 
-pub returns-else-n-lt8 : goal.returns-else-n-lt8
+pub returns : goal.returns
 unfolding lent_to
-returns-else-n-lt8 c =
-    let to = wanted c.args.day in
-    let e : c.match-x.n ≡ wanted c.args.day c.args.x =
+returns c =
+    let day = c.args.day in
+    let n : c.match-x.n ≡ wanted day (request_of c.args.x) =
     elim c.match-x.branch [
-      | in-Open w ↦ w.n-is ∙ sym (ap to w.in-Open.is)
-      | in-Update w ↦ w.n-is ∙ sym (ap to w.in-Update.is)
-      | in-Scan w ↦ w.n-is ∙ sym (ap to w.in-Scan.is)
-      | in-Turn w ↦ w.n-is ∙ sym (ap to w.in-Turn.is)
+      | in-Found w ↦ w.n-is ∙ w.wanted-n.ensures ∙ ap (λ x. wanted day (request_of x)) (sym w.in-Found.is)
+      | in_default w ↦ w.n-is ∙ nothing_wanted day c.args.x w.in_default.not-Found
     ] in
-    sym (rw (le-ltb _ 8 (subst (λ n. 8 ≤ n) e c.if-n-lt8.false)))
+    c.min.ensures ∙ at_most c.match-x.n ∙ ap (λ n. cond (ltb n 8) n 8) n

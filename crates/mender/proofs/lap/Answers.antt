@@ -19,4 +19,4 @@ pub returns : goal.returns
 returns c =
     let a = c.args in
     drops_piece a.bytes.now a.s a.t.now a.page.now a.room.now a.rows.now c.judge-j.result _ _ c.judge-j.ensures
-    c.requires.0.more c.if-j-eq0.false _ c.put.ensures
+    c.requires.0.more c.if-j-eq0.false _ c.lay-2.ensures

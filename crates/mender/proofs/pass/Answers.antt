@@ -16,8 +16,7 @@ loop-i-preserved c =
       pass_then l.invariant.0 lap.ensures,
       pass_steady lap.ensures l.invariant.1,
       t-long ∙ l.invariant.2,
-      omega arith,
-      page-long ∙ l.invariant.4,
-      room-long ∙ l.invariant.5,
-      rows_long ∙ l.invariant.6,
+      page-long ∙ l.invariant.3,
+      room-long ∙ l.invariant.4,
+      rows_long ∙ l.invariant.5,
     )

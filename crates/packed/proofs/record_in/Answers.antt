@@ -6,11 +6,11 @@ pub returns : goal.returns
 unfolding unpack_record
 returns c =
     λ i. record {
-      register = c.register_at-register.ensures i;
-      task = c.task_in-task.ensures i;
-      first = c.collect_at-first.ensures i;
-      second = c.collect_at-second.ensures i;
-      first_end = c.end_in-first_end.ensures i;
-      view = c.view_in-view.ensures i;
-      moved = c.marks_in-moved.ensures i;
+      register = c.own_in.ensures i;
+      task = c.task_in.ensures i;
+      first = c.collect_at.ensures i;
+      second = c.collect_at-2.ensures i;
+      first_end = c.end_in.ensures i;
+      view = c.view_in.ensures i;
+      moved = c.marks_in.ensures i;
     }

@@ -8,9 +8,9 @@ pub returns : goal.returns
 returns c =
     let x = c.args in
     let ws = x.w.now in
-    let view = c.view_at-view.ensures ∙ ap (unpack_view 8) (sym (drop-drop 3 x.a ws)) in
+    let view = c.view_at.ensures ∙ ap (unpack_view 8) (sym (drop-drop 3 x.a ws)) in
     λ i. record {
-      value = c.value_at-value.ensures i;
+      value = c.value_at.ensures i;
       seq = sym (get_or-drop x.a ws 2 0) i;
       view = view i;
       at = sym (get_or-drop x.a ws 19 0) i;

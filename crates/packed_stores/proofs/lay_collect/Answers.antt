@@ -18,14 +18,13 @@ loop-i-preserved c =
     let l = c.loop-i in
     let done = pack_collect (take l.i x.rs) in
     let next = pack_register (get_or x.rs l.i no_register) in
-    let here : x.a + 20 * l.i ≡ x.a + length done = omega (arith, l.invariant.2) in
+    let here : x.a + 20 * l.i ≡ x.a + length done = omega (arith, l.invariant.1) in
     let more = chained_more pack_register no_register x.rs l.i (omega arith)
     ∙ ap (λ k. pack_collect (take k x.rs)) (sym (add-one l.i)) in (
-      omega arith,
       c.lay_register.ensures.w_after
           ∙ stored_whole l.w (get_or x.rs l.i no_register) (x.a + 20 * l.i) c.lay_register.ensures.view_len
-          ∙ (λ i. sets (l.invariant.1 i) (here i) next)
+          ∙ (λ i. sets (l.invariant.0 i) (here i) next)
           ∙ sets_then x.w.now x.a done next
           ∙ ap (sets x.w.now x.a) more,
-      sym (ap length more) ∙ length-append done next ∙ omega (arith, l.invariant.2, register_long (get_or x.rs l.i no_register) c.lay_register.ensures.view_len),
+      sym (ap length more) ∙ length-append done next ∙ omega (arith, l.invariant.1, register_long (get_or x.rs l.i no_register) c.lay_register.ensures.view_len),
     )

@@ -1,4 +1,4 @@
--- `packed_turns::begin` meets its contract: after i turns of the loop the first i places of both collects are clear.
+-- `packed_turns::begin` meets its contract.
 use native.Mathlib.Omega.{arith}
 use mathlib.Core.Path.{◌≡◌, ap, ◌∙◌}
 use mathlib.Core.List.{map}
@@ -21,5 +21,5 @@ returns c =
     let marked = c.lay_marks.ensures ∙ ap (λ ws. sets ws 361 (map pack_mark none_moved)) c.lay_task.ensures in
     let ended = c.lay_end.ensures ∙ ap (λ ws. set ws 344 0) marked in
     let kept = c.lay_kept.ensures ∙ ap (λ ws. sets ws 345 (pack_view (take n (replicate 8 zero_value)))) ended in
-    l.invariant.1 ∙ (λ t. placed_to n (c.no_register-none.ensures t) (all t) (kept t))
+    l.invariant ∙ (λ t. placed_to n (c.no_register-none.ensures t) (all t) (kept t))
     ∙ begun_words x.w.now n c.requires.small x.k

@@ -11,6 +11,6 @@ returns-in_default c =
 pub returns : goal.returns
 returns c =
     let a = c.args in
-    let f = c.finished-count.ensures in
+    let f = c.finished.ensures in
     let q = past_found a.s a.x a.o _ _ _ _ c.in-Found.is _ f.value _ c.words_after.ensures _ f.book_after in
     record { value = q.0; book_after = q.1 }

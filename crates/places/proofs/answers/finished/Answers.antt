@@ -1,35 +1,32 @@
 -- `places::answers::finished` meets its contract.
+use mathlib.Core.Path.{ap, ◌∙◌}
+use mathlib.Core.List.{[], ◌∷◌}
 use lib.ListN.{take}
-use borrow.Author.Rules.{rules}
-use Rattle.places.specs.Answers.{count_after, book_after}
-use Rattle.places.proofs.Kept.{page_put}
+use Rattle.places.specs.Places.{eight}
+use Rattle.places.proofs.Kept.{page_put, entry_put, nothing_put}
 use Rattle.places.proofs.answers.finished.Goals as goal
+use Rattle.places.proofs.answers.finished.Goals.{in-Page, in-Written}
 
-pub returns-in-Refused : goal.returns-in-Refused
-unfolding count_after book_after
-returns-in-Refused c = search rules
-
-pub returns-in-Opened : goal.returns-in-Opened
-unfolding count_after book_after
-returns-in-Opened c = search rules
-
-pub returns-in-Called : goal.returns-in-Called
-unfolding count_after book_after
-returns-in-Called c = search rules
-
-pub returns-in-Read : goal.returns-in-Read
-unfolding count_after book_after
-returns-in-Read c = search rules
-
-pub returns-in-Page : goal.returns-in-Page
-returns-in-Page c =
+pub returns-in_default : goal.returns-in_default
+returns-in_default c =
     let a = c.args in
-    let e =
-    page_put a.words a.count a.r a.o.day.event (take a.o.day.count a.page.now) a.book.now a.o.answer
-    c.number_in-process.result c.number_in-process.ensures c.page.result c.put.new.book c.put.ensures _ _ _ c.in-Page.is c.page.ensures
-    in
+    let e = nothing_put a.words a.count a.r a.o.day.event (take a.o.day.count a.page.now) a.book.now a.o.answer
+    c.in_default.not-Page c.in_default.not-Written in
     record { value = e.0; book_after = e.1 }
 
-pub returns-in-Written : goal.returns-in-Written
-unfolding count_after book_after
-returns-in-Written c = search rules
+pub returns : goal.returns
+returns c =
+    let a = c.args in
+    let process = c.number_in-process in
+    let shown = take a.o.day.count a.page.now in
+    elim c.match-o.branch [
+      | in-Page w ↦
+          let e = page_put a.words a.count a.r a.o.day.event shown a.book.now a.o.answer process.result process.ensures
+          c.match-o.place c.put.new.book c.put.ensures _ _ _ w.in-Page.is (w.place-is ∙ w.page-place.ensures) in
+          record { value = e.0; book_after = e.1 }
+      | in-Written w ↦
+          let e = entry_put a.words a.count a.r a.o.day.event shown a.book.now a.o.answer process.result process.ensures
+          c.match-o.place c.put.new.book c.put.ensures _ w.in-Written.is
+          (w.place-is ∙ w.entry-place.ensures ∙ ap (λ x. a.o.day.event ∷ 2 ∷ process.result ∷ eight (x ∷ [])) w.word_of.ensures) in
+          record { value = e.0; book_after = e.1 }
+    ]
