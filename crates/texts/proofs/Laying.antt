@@ -6,7 +6,8 @@ use mathlib.Core.Path.{◌≡◌, refl, sym, ap, ap₂, ◌∙◌}
 use mathlib.Core.List.{List, [], ◌∷◌, ◌++◌, append_assoc, append-nil}
 use lib.ListN.{length, get_or, take, drop, set, length-append, take-append-drop}
 use lib.Seq.{length-take-le, take_at, drop_at, drop-drop, set_split, take-set-le}
-use Rattle.texts.specs.Laying.{with_text, Laid, each_text}
+use Rattle.texts.specs.declared.Sheet.{Sheet}
+use Rattle.texts.specs.Laying.{with_text, Laid, HasRoom, SameBuffer, Lays, each_text}
 
 module _ (out : List ℕ) (at : ℕ) where
   length_front : (s : List ℕ) → at ≤ length out → length (take at out ++ s) ≡ at + length s
@@ -80,6 +81,22 @@ laid_start {out} {text} l =
 -- where there is nothing to lay, the buffer stays as it is
 pub none_laid : (out : List ℕ) {text : List ℕ} → text ≡ [] → Laid out 0 text out 0
 none_laid out e = laid_as (sym e) (record { buffer = sym (laid_nothing out 0); end = refl })
+
+-- ---- on a sheet
+
+pub same_then : {a b c : Sheet} → SameBuffer a b → SameBuffer b c → SameBuffer a c
+same_then one two = record { same_name = two.same_name ∙ one.same_name; same_length = two.same_length ∙ one.same_length }
+
+-- two texts laid one after the other are both laid as one
+pub lays_then : {a b c : Sheet} {s t : List ℕ} → HasRoom a 0 → Lays a s b → Lays b t c → Lays a (s ++ t) c
+lays_then room one two =
+    record {
+      buffer = same_then one.buffer two.buffer;
+      laid = in_turn (omega (arith, room)) one.laid two.laid;
+    }
+
+pub lays_as : {a b : Sheet} {s t : List ℕ} → s ≡ t → Lays a s b → Lays a t b
+lays_as e l = rw e at l
 
 -- ---- texts one after the other
 
