@@ -1,6 +1,7 @@
 -- Laws of laying text into a buffer.
 use Prim.Native.Nat.{ℕ, zero, suc, ◌+◌, ◌≤◌, ◌<◌}
 use native.Mathlib.Nat.{add-zero, not-suc-le-zero}
+use native.Mathlib.Numerals.{add-one}
 use native.Mathlib.Omega.{arith}
 use mathlib.Core.Path.{◌≡◌, refl, sym, ap, ap₂, ◌∙◌}
 use mathlib.Core.List.{List, [], ◌∷◌, ◌++◌, append_assoc, append-nil}
@@ -95,6 +96,13 @@ lays_then room one two =
       laid = in_turn (omega (arith, room)) one.laid two.laid;
     }
 
+pub lays_nothing : (a : Sheet) → Lays a [] a
+lays_nothing a =
+    record {
+      buffer = record { same_name = refl; same_length = refl };
+      laid = record { buffer = sym (laid_nothing a.out.now a.at); end = sym (add-zero a.at) };
+    }
+
 pub lays_as : {a b : Sheet} {s t : List ℕ} → s ≡ t → Lays a s b → Lays a t b
 lays_as e l = rw e at l
 
@@ -111,3 +119,9 @@ module _ {A : Type 0} (f : A → List ℕ) where
   pub each_append : (xs ys : List A) → each_text f (xs ++ ys) ≡ each_text f xs ++ each_text f ys
   each_append [] ys = refl
   each_append (x ∷ xs) ys = ap (λ t. f x ++ t) (each_append xs ys) ∙ sym (append_assoc (f x) (each_text f xs) (each_text f ys))
+
+  -- and laid
+  pub lays_more : {a b c : Sheet} (xs : List A) (i : ℕ) (z : A) → i < length xs → HasRoom a 0
+      → Lays a (each_text f (take i xs)) b → Lays b (f (get_or xs i z)) c → Lays a (each_text f (take (i + 1) xs)) c
+  lays_more xs i z l room before next =
+      lays_as (each_more xs i z l ∙ ap (λ k. each_text f (take k xs)) (sym (add-one i))) (lays_then room before next)
