@@ -1,13 +1,13 @@
-use mathlib.Core.Path.{refl}
-use Rattle.std.proofs.Common.{rules}
-use Rattle.std.proofs.lemmas.Slice.{overwrites}
-use Rattle.texts.specs.Laying.{with_text}
+use mathlib.Core.Path.{sym}
+use Rattle.std.proofs.Common.{arith}
+use Rattle.std.proofs.lemmas.List.{take_more}
+use Rattle.texts.proofs.Laying.{lays_nothing, lays_then, lays_as}
 use Rattle.texts.proofs.Sheet.bytes.Goals as goal
 
-pub returns : goal.returns
-unfolding with_text
-returns c =
-    record {
-      buffer = record { same_name = refl; same_length = search rules };
-      laid = record { buffer = search (rules, overwrites); end = refl };
-    }
+pub loop-b-init : goal.loop-b-init
+loop-b-init c = lays_nothing _
+
+pub loop-b-preserved : goal.loop-b-preserved
+loop-b-preserved c =
+    lays_as (sym (take_more c.args.text.now c.loop-b.b-index 0 c.loop-b-test.true))
+    (lays_then (omega arith) c.loop-b.invariant c.byte.ensures)
