@@ -8,7 +8,8 @@ use lib.Dec.{eqb}
 use lib.ListN.{length, get_or, take}
 use borrow.Author.Tests.{leb-true, le-leb}
 use Rattle.snapshot.proofs.Booleans.{and_both}
-use Rattle.texts.specs.Laying.{Laid}
+use Rattle.texts.specs.declared.Sheet.{Sheet}
+use Rattle.texts.specs.Laying.{HasRoom, SameBuffer, Lays}
 use Rattle.daytext.specs.declared.Line.{Line}
 use Rattle.daytext.specs.declared.Line.TheVariants.{Update, BookPage, End}
 use Rattle.daytext.specs.Lines.{text_of}
@@ -27,15 +28,15 @@ place_book_line p = go (eqb (get_or p 1 0) 2)
     go false = page
 
 -- where there is room, a line of a book is laid, and ends within the bytes of the longest
-module _ {line : Line} (is : BookLine line) (ws out : List ℕ) (at : ℕ) where
-  pub line_laid : length ws ≤ 8 → at + longest ≤ length out → {r : ℕ} {after : List ℕ} →
-      r ≡ laid_place line ws [] out at → after ≡ laid_text line ws [] out at →
-      Laid out at (text_of line ws []) after r × (r ≤ at + longest_place)
-  line_laid few room {r} ends lies =
-      let laid = laid_with_room line ws [] out at (omega (arith, few)) room in
-      let end : r ≡ at + length (text_of line ws []) = ends ∙ laid.0 in
+module _ {line : Line} (is : BookLine line) (ws : List ℕ) {s t : Sheet} where
+  pub line_laid : length ws ≤ 8 → HasRoom s longest → SameBuffer s t →
+      t.at ≡ laid_place line ws [] s.out.now s.at → t.out.now ≡ laid_text line ws [] s.out.now s.at →
+      Lays s (text_of line ws []) t × (t.at ≤ s.at + longest_place)
+  line_laid few room same ends lies =
+      let laid = laid_with_room line ws [] s.out.now s.at (omega (arith, few)) room in
+      let end : t.at ≡ s.at + length (text_of line ws []) = ends ∙ laid.0 in
       let short = book_line_short is ws few in
-      (record { buffer = lies ∙ laid.1; end = end }, omega (arith, end, short))
+      (record { buffer = same; laid = record { buffer = lies ∙ laid.1; end = end } }, omega (arith, end, short))
 
 -- what is tested before anything is laid
 module _ (count n places room : ℕ) where

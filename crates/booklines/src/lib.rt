@@ -1,12 +1,13 @@
 // The text of a book: a line for each of its places, then `end` and how many there are, laid into a lent buffer.
 #![tactic(auto)]
 
-ghost use Rattle.std.specs.Prelude.{◌≡◌, ◌+◌, ◌*◌, ◌≤◌, length, take};
-ghost use Rattle.texts.specs.Laying.{Laid};
+ghost use Rattle.std.specs.Prelude.{◌≡◌, ◌+◌, ◌*◌, ◌≤◌, length};
+ghost use Rattle.texts.specs.Laying.{Laid, HasRoom, Lays};
 ghost use Rattle.daytext.specs.Buffer.{longest};
 ghost use Rattle.booklines.specs.PlaceText.{place_line, place_text, places_text, longest_place, has_room, laid_book};
 
 use daytext::{LONGEST, Line};
+use texts::Sheet;
 
 // A book has fewer places than a day has events.
 const MOST: usize = 65535;
@@ -31,30 +32,25 @@ fn line_of(place: &[u32; 11]) -> Line
     }
 }
 
-// Lays the line of a place, with the first n of its words, at `at` of `out`, and answers the place after it.
-fn lay_place(place: &[u32; 11], n: usize, out: &mut [u8], at: usize) -> usize
-    requires { (n ≤ 8) × (at + longest ≤ length out.old) }
-    ensures laid { Laid out.old at (place_text n place.now) out.new result }
-    ensures upper_bound { result ≤ at + longest_place }
+// Lays the line of a place, with the first n of its words.
+fn lay_place(place: &[u32; 11], n: usize, sheet: &mut Sheet<'_>)
+    requires { (n ≤ 8) × HasRoom sheet.old longest }
+    ensures laid { Lays sheet.old (place_text n place.now) sheet.new }
+    ensures upper_bound { sheet.new.at ≤ sheet.old.at + longest_place }
 {
     let numbers = &place[..];
-    let end = 3 + n;
-    laying::lay(line_of(place), &numbers[3..end], &numbers[..0], out, at)
+    laying::lay(line_of(place), &numbers[3..3 + n], &[], sheet);
 }
 
-// Lays the lines of the first `count` places.
-fn lay_places(book: &[[u32; 11]], count: usize, n: usize, out: &mut [u8]) -> usize
-    requires { (count ≤ length book.now) × (n ≤ 8) × (longest_place * count + longest ≤ length out.old) }
-    ensures laid { Laid out.old 0 (places_text n (take count book.now)) out.new result }
-    ensures upper_bound { result ≤ longest_place * count }
+// Lays the lines of places.
+fn lay_places(places: &[[u32; 11]], n: usize, sheet: &mut Sheet<'_>)
+    requires { (n ≤ 8) × HasRoom sheet.old (longest_place * length places.now + longest) }
+    ensures laid { Lays sheet.old (places_text n places.now) sheet.new }
+    ensures upper_bound { sheet.new.at ≤ sheet.old.at + longest_place * length places.now }
 {
-    let mut at = 0;
-    let mut i = 0;
-    while i < count {
-        at = lay_place(&book[i], n, out, at);
-        i += 1;
+    for place in places {
+        lay_place(place, n, sheet);
     }
-    at
 }
 
 // Whether so many of the places, with n words a page, are laid into so many bytes.
@@ -74,7 +70,8 @@ fn has_room(count: usize, n: usize, places: usize, room: usize) -> bool
 }
 
 // Lays the lines of the first `count` places, with n words a page, and the end from the start of `out` on, and answers how many
-// bytes they take. Where they do not fit, or there are fewer places or more words than that, it lays nothing and answers 0.
+// bytes they take. Where they do not fit, or there are fewer places or more words than that, it lays nothing and answers 0. The count
+// stands beside the places and does not cut them, since more than there are is no fault of the caller's but answered with 0.
 pub fn lay_book(book: &[[u32; 11]], count: usize, n: usize, out: &mut [u8]) -> usize
     ensures { Laid out.old 0
         (laid_book book.now count n (length out.old)) out.new result }
@@ -82,8 +79,9 @@ pub fn lay_book(book: &[[u32; 11]], count: usize, n: usize, out: &mut [u8]) -> u
     if !has_room(count, n, book.len(), out.len()) {
         return 0;
     }
-    let at = lay_places(book, count, n, out);
-    let places = count as u32;
-    let none: [u32; 0] = [];
-    laying::lay(Line::End { event: places }, &none, &none, out, at)
+    let mut sheet = Sheet { out, at: 0 };
+    lay_places(&book[..count], n, &mut sheet);
+    let event = count as u32;
+    laying::lay(Line::End { event }, &[], &[], &mut sheet);
+    sheet.at
 }

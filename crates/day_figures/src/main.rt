@@ -73,7 +73,7 @@ fn lent(
     requires { 2 ≤ n }
     ensures { IsFiguresRun desks (n - 2) 2097153 out.old out.new result }
 {
-    texts::bytes(b"day_figures: cannot read ", label, 0);
+    label[..25].copy_from_slice(b"day_figures: cannot read ");
     run(rt, desks, n, label, bytes, answers, out)
 }
 

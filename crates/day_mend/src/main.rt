@@ -55,7 +55,7 @@ fn tell(rt: &HostRuntime, telling: bool, rows: &[[u64; 3]], count: usize, lines:
     if !telling {
         return false;
     }
-    let n = mendlines::lay_rows(rows, count, lines);
+    let n = mendlines::lay_rows(&rows[..count], lines);
     output::write_to(
         &mut rt.stderr(),
         lines,

@@ -9,6 +9,7 @@ ghost use Rattle.daylines.specs.Printed.{call_line, answer_line, line_of, is_end
 use dayfile::Reading;
 use daytext::Line;
 use snapshot::{Answer, Outcome, Request};
+use texts::Sheet;
 
 // The line of a call that was accepted with the given event number.
 fn call_line(x: Request, event: u32) -> Line
@@ -72,11 +73,7 @@ fn line_of(x: Reading, o: Outcome) -> Line
 pub fn is_end(x: Reading) -> bool
     ensures { result ≡ is_end x }
 {
-    match x {
-        Reading::Found { record: _, next: _ } => false,
-        Reading::End => true,
-        Reading::Refused(_) => false,
-    }
+    matches!(x, Reading::End)
 }
 
 // How many of so many numbers there are in a list of that size.
@@ -84,8 +81,7 @@ fn shown(count: u32, size: usize) -> usize
     ensures { (result ≤ size)
         × ((l : List ℕ) → length l ≡ size → (take result l ≡ take count l) × (drop result l ≡ drop count l)) }
 {
-    let n = count as usize;
-    if size < n { size } else { n }
+    size.min(count as usize)
 }
 
 // Lays the line of what was read, with the words of the page list that the day shows and the numbers of their last writings, and
@@ -99,5 +95,7 @@ pub fn lay(x: Reading, o: Outcome, page: &[u32], out: &mut [u8], to: usize) -> u
     let day = o.day;
     let n = shown(day.count, page.len());
     let end = n + shown(day.count, page.len() - n);
-    laying::lay(line_of(x, o), &page[..n], &page[n..end], out, to)
+    let mut sheet = Sheet { out, at: to };
+    laying::lay(line_of(x, o), &page[..n], &page[n..end], &mut sheet);
+    sheet.at
 }

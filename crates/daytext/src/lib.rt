@@ -1,8 +1,5 @@
-// The printed lines of a day and of its book. Those without a page are laid as text here, those with one by crate `pagetext`, and any
-// of them by crate `laying`.
+// The printed lines of a day and of its book. Those with a page are laid as text by crate `pagetext`, and any of them by crate `laying`.
 #![tactic(auto)]
-
-pub mod lines;
 
 // A printed line (document 01, Day files and the day runner; document 02, K1). The words of a page, and the
 // numbers of their last writings, lie in slices beside it.

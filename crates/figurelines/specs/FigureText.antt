@@ -1,10 +1,9 @@
 -- The line that a quarter's figures print: `desks 2 pages 5 mean 32/5 borrowed 2/5 largest 8`, or `refused` and the number.
-use Rattle.std.specs.Prelude.{ℕ, cond, List, [], ◌∷◌, ◌++◌, ltb}
+use Rattle.std.specs.Prelude.{ℕ, cond, List, [], ◌∷◌, ◌++◌, ltb, Result, Ok, Err}
 use Rattle.snapshot.specs.Refusals.{number_of}
+use Rattle.snapshot.specs.declared.Refusal.{Refusal}
 use Rattle.fractions.specs.declared.Fraction.{Fraction}
 use Rattle.figures.specs.declared.Figures.{Figures}
-use Rattle.figures.specs.declared.Reckoning.{Reckoning}
-use Rattle.figures.specs.declared.Reckoning.TheVariants as Reckonings
 use Rattle.texts.specs.Ascii.{ascii}
 use Rattle.texts.specs.Decimal.{long_decimal}
 use Rattle.daytext.specs.declared.Line.TheVariants as Lines
@@ -32,10 +31,10 @@ figures_text n f =
     ++ ascii "\n"
 
 -- or why there are none
-unfoldable pub reckoning_text : ℕ → Reckoning → List ℕ
-reckoning_text n (Reckonings.Given f) = figures_text n f
-reckoning_text n (Reckonings.Refused k) = text_of (Lines.Refused (number_of k)) [] []
+unfoldable pub reckoning_text : ℕ → Result Figures Refusal → List ℕ
+reckoning_text n (Ok f) = figures_text n f
+reckoning_text n (Err k) = text_of (Lines.Refused (number_of k)) [] []
 
 -- what is laid of it into so many bytes: nothing where they may be too few
-abbrev pub laid_reckoning : ℕ → Reckoning → (room : ℕ) → List ℕ
+abbrev pub laid_reckoning : ℕ → Result Figures Refusal → (room : ℕ) → List ℕ
 laid_reckoning n r room = cond (ltb room longest) [] (reckoning_text n r)

@@ -1,60 +1,63 @@
-// The line of a quarter's figures, laid into a lent buffer. The answer is the place after what was laid.
+// The line of a quarter's figures, laid into a lent buffer.
 #![tactic(auto)]
 
 ghost use Rattle.std.specs.Prelude.{◌+◌, ◌≤◌, ◌++◌, length};
-ghost use Rattle.texts.specs.Laying.{Laid};
-ghost use Rattle.figurelines.specs.FigureText.{fraction_text, figures_text, laid_reckoning};
+ghost use Rattle.texts.specs.Laying.{Laid, HasRoom, Lays};
+ghost use Rattle.daytext.specs.Buffer.{longest};
+ghost use Rattle.figurelines.specs.FigureText.{fraction_text, figures_text, reckoning_text, laid_reckoning};
 
 use daytext::{LONGEST, Line};
-use figures::{Figures, Reckoning};
+use figures::Figures;
 use fractions::Fraction;
+use snapshot::Refusal;
+use texts::Sheet;
 
 // Lays a text and a fraction after it.
-fn fraction(text: &[u8], f: Fraction, out: &mut [u8], at: usize) -> usize
-    requires { at + length text.now + 41 ≤ length out.old }
-    ensures laid { Laid out.old at (text.now ++ fraction_text f) out.new result }
-    ensures upper_bound { result ≤ at + length text.now + 41 }
+fn fraction(text: &[u8], f: Fraction, sheet: &mut Sheet<'_>)
+    requires { HasRoom sheet.old (length text.now + 41) }
+    ensures laid { Lays sheet.old (text.now ++ fraction_text f) sheet.new }
+    ensures upper_bound { sheet.new.at ≤ sheet.old.at + length text.now + 41 }
 {
-    let a = longtexts::field(text, f.numerator, out, at);
-    longtexts::field(b"/", f.denominator, out, a)
+    sheet.bytes(text);
+    sheet.pair(f.numerator, b"/", f.denominator);
 }
 
 // Lays the line of figures for a desk count.
-fn lay_figures(desks: u32, f: Figures, out: &mut [u8]) -> usize
-    requires { 272 ≤ length out.old }
-    ensures { Laid out.old 0 (figures_text desks f) out.new result }
+fn lay_figures(desks: u32, f: Figures, sheet: &mut Sheet<'_>)
+    requires { HasRoom sheet.old longest }
+    ensures { Lays sheet.old (figures_text desks f) sheet.new }
 {
-    let mean = f.mean;
-    let borrowed = f.borrowed;
-    let a = longtexts::field(b"desks ", desks as u64, out, 0);
-    let b = longtexts::field(b" pages ", f.pages, out, a);
-    let c = fraction(b" mean ", mean, out, b);
-    let d = fraction(b" borrowed ", borrowed, out, c);
-    let e = longtexts::field(b" largest ", f.largest as u64, out, d);
-    texts::byte(b'\n', out, e)
+    sheet.field(b"desks ", u64::from(desks));
+    sheet.field(b" pages ", f.pages);
+    fraction(b" mean ", f.mean, sheet);
+    fraction(b" borrowed ", f.borrowed, sheet);
+    sheet.field(b" largest ", u64::from(f.largest));
+    sheet.byte(b'\n');
 }
 
-// Lays the line of a reckoning for a desk count from the start of `out` on. Where fewer than LONGEST bytes are lent, it lays nothing
-// and answers 0.
-pub fn lay(desks: u32, r: Reckoning, out: &mut [u8]) -> usize
-    ensures { Laid out.old 0 (laid_reckoning desks r (length out.old)) out.new result }
+// Lays the line of a reckoning for a desk count.
+fn lay_reckoning(desks: u32, reckoning: Result<Figures, Refusal>, sheet: &mut Sheet<'_>)
+    requires { HasRoom sheet.old longest }
+    ensures { Lays sheet.old (reckoning_text desks reckoning) sheet.new }
+{
+    match reckoning {
+        Ok(f) => lay_figures(desks, f, sheet),
+        Err(k) => {
+            let number = snapshot::number(k);
+            laying::lay(Line::Refused { number }, &[], &[], sheet);
+        }
+    }
+}
+
+// Lays the line of a reckoning for a desk count from the start of `out` on, and answers how many bytes it takes. Where fewer than
+// LONGEST bytes are lent, it lays nothing and answers 0.
+pub fn lay(desks: u32, reckoning: Result<Figures, Refusal>, out: &mut [u8]) -> usize
+    ensures { Laid out.old 0 (laid_reckoning desks reckoning (length out.old)) out.new result }
 {
     if out.len() < LONGEST {
         return 0;
     }
-    match r {
-        Reckoning::Given(f) => lay_figures(desks, f, out),
-        Reckoning::Refused(k) => {
-            let none: [u32; 0] = [];
-            laying::lay(
-                Line::Refused {
-                    number: snapshot::number(k),
-                },
-                &none,
-                &none,
-                out,
-                0,
-            )
-        }
-    }
+    let mut sheet = Sheet { out, at: 0 };
+    lay_reckoning(desks, reckoning, &mut sheet);
+    sheet.at
 }

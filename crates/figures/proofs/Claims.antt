@@ -14,8 +14,9 @@ use borrow.Author.Tests.{lt-ltb, le-ltb}
 use Rattle.fractions.specs.Fractions.{greatest_divisor, lowest_terms, IsLowest}
 use Rattle.fractions.proofs.Divisors.{lowest_is}
 use Rattle.snapshot.specs.Refusals.{number_of}
-use Rattle.figures.specs.declared.Reckoning.{Reckoning}
-use Rattle.figures.specs.declared.Reckoning.TheVariants.{Given, Refused}
+use Rattle.std.specs.Prelude.{Result, Ok, Err}
+use Rattle.snapshot.specs.declared.Refusal.{Refusal}
+use Rattle.figures.specs.declared.Figures.{Figures}
 use Rattle.snapshot.specs.declared.Refusal.TheVariants.{CountRange, NoPage, TooMany}
 use Rattle.figures.specs.Figures.{PageAnswer, answer_in, answers_for, turns_in, borrowed_in, figures_of, reckoned}
 use Rattle.figures.proofs.Summed.{by_causes, reckoned_by_lem}
@@ -53,17 +54,17 @@ first_enough n most xs past =
     many_alike n (take most xs) xs (omega (arith, long, past)) (omega (arith, many, past)))
 
 -- the number of a refusal, and 0 for figures
-abbrev number : Reckoning → ℕ
-number (Given f) = 0
-number (Refused k) = number_of k
+abbrev number : Result Figures Refusal → ℕ
+number (Ok f) = 0
+number (Err k) = number_of k
 
 -- 65,535 are not too many
-pub few_enough : (n : ℕ) (xs : List PageAnswer) → length xs ≤ 65535 → reckoned n xs ≡ Refused TooMany → ⊥
+pub few_enough : (n : ℕ) (xs : List PageAnswer) → length xs ≤ 65535 → reckoned n xs ≡ Err TooMany → ⊥
 few_enough n xs few many =
     go (ltb n 1) (ltb 8 n) (eqb (length (answers_for n xs)) 0)
     (reckoned_by_lem n xs (ltb n 1) (ltb 8 n) false _ refl refl (le-ltb 65535 (length xs) few) refl ∙ many)
   where
-    go : (low high none : Bool) → by_causes n xs low high false none ≡ Refused TooMany → ⊥
+    go : (low high none : Bool) → by_causes n xs low high false none ≡ Err TooMany → ⊥
     go true high none q = let e : ◌≡◌ {A = ℕ} 1 15 = ap number q in omega (arith, e)
     go false true none q = let e : ◌≡◌ {A = ℕ} 1 15 = ap number q in omega (arith, e)
     go false false true q = let e : ◌≡◌ {A = ℕ} 14 15 = ap number q in omega (arith, e)
@@ -72,12 +73,12 @@ few_enough n xs few many =
 -- ---- a count that is none
 
 -- whatever the answers are, so that 1 comes first
-pub outside_first : (xs : List PageAnswer) → (reckoned 0 xs ≡ Refused CountRange) × (reckoned 9 xs ≡ Refused CountRange)
+pub outside_first : (xs : List PageAnswer) → (reckoned 0 xs ≡ Err CountRange) × (reckoned 9 xs ≡ Err CountRange)
 unfolding reckoned
 outside_first xs = (refl, refl)
 
 -- all counts above eight are alike
-pub above_eight : (n : ℕ) (xs : List PageAnswer) → 8 < n → reckoned n xs ≡ Refused CountRange
+pub above_eight : (n : ℕ) (xs : List PageAnswer) → 8 < n → reckoned n xs ≡ Err CountRange
 above_eight n xs above =
     sym (reckoned_by_lem n xs false true _ _ (le-ltb n 1 (omega (arith, above))) (lt-ltb 8 n above) refl refl)
 
@@ -89,7 +90,7 @@ pages =
     map answer_in
     ((2 ∷ 2 ∷ 8 ∷ []) ∷ (2 ∷ 0 ∷ 4 ∷ []) ∷ (3 ∷ 1 ∷ 18 ∷ []) ∷ (2 ∷ 0 ∷ 8 ∷ []) ∷ (2 ∷ 1 ∷ 8 ∷ []) ∷ (2 ∷ 0 ∷ 4 ∷ []) ∷ [])
 
-pub example : reckoned 2 pages ≡ Given (record {
+pub example : reckoned 2 pages ≡ Ok (record {
   pages = 5;
   mean = record { numerator = 32; denominator = 5 };
   borrowed = record { numerator = 2; denominator = 5 };
@@ -99,7 +100,7 @@ unfolding reckoned lowest_terms greatest_divisor
 example = refl
 
 -- a whole number is over 1, a share of none is 0 over 1, and eight is a count
-pub whole_number : reckoned 8 (map answer_in ((8 ∷ 0 ∷ 16 ∷ []) ∷ (8 ∷ 0 ∷ 32 ∷ []) ∷ [])) ≡ Given (record {
+pub whole_number : reckoned 8 (map answer_in ((8 ∷ 0 ∷ 16 ∷ []) ∷ (8 ∷ 0 ∷ 32 ∷ []) ∷ [])) ≡ Ok (record {
   pages = 2;
   mean = record { numerator = 24; denominator = 1 };
   borrowed = record { numerator = 0; denominator = 1 };
@@ -109,6 +110,6 @@ unfolding reckoned lowest_terms greatest_divisor
 whole_number = refl
 
 -- 14 where only other counts have pages
-pub none_for_four : reckoned 4 pages ≡ Refused NoPage
+pub none_for_four : reckoned 4 pages ≡ Err NoPage
 unfolding reckoned
 none_for_four = refl

@@ -12,7 +12,8 @@ use Rattle.snapshot.specs.declared.Refusal.TheVariants.{CountRange, NoPage, TooM
 use Rattle.fractions.specs.declared.Fraction.{Fraction}
 use Rattle.fractions.specs.Fractions.{lowest_terms}
 use Rattle.figures.specs.declared.Figures.{Figures}
-use Rattle.figures.specs.declared.Reckoning.{Reckoning}
+use Rattle.std.specs.Prelude.{Result}
+use Rattle.snapshot.specs.declared.Refusal.{Refusal}
 use Rattle.figures.specs.declared.Sums.{Sums}
 use Rattle.figures.specs.Figures.{PageAnswer, answers_for, turns_in, borrowed_in, largest_in, figures_of, reckoned_by, reckoned}
 use Rattle.figures.specs.Sums.{no_sums, with_page, with_answer, sums_from}
@@ -102,7 +103,7 @@ module _ (n : ℕ) (s : Sums) (xs : List PageAnswer) (is : s ≡ sums_from n no_
 
 module _ (n : ℕ) (xs : List PageAnswer) where
   -- where it is known of each cause whether it holds: the two of 1, then 15 and 14
-  abbrev pub by_causes : (low high many none : Bool) → Reckoning
+  abbrev pub by_causes : (low high many none : Bool) → Result Figures Refusal
   by_causes low high many none =
       reckoned_by (answers_for n xs) (first_cause ((low || high, CountRange) ∷ (many, TooMany) ∷ (none, NoPage) ∷ []))
 

@@ -1,13 +1,11 @@
 -- Figures for the quarter (document 02, K5).
-use Rattle.std.specs.Prelude.{ℕ, ◌+◌, max, cond, List, [], ◌∷◌, eqb, ltb, length, get_or}
+use Rattle.std.specs.Prelude.{ℕ, ◌+◌, max, cond, List, [], ◌∷◌, eqb, ltb, length, get_or, Result, Ok, Err}
 use Rattle.std.proofs.Math.Option.{Option, none, some}
 use Rattle.snapshot.specs.Refusals.{Cause, first_cause, outside}
 use Rattle.snapshot.specs.declared.Refusal.{Refusal}
 use Rattle.snapshot.specs.declared.Refusal.TheVariants.{CountRange, NoPage, TooMany}
 use Rattle.fractions.specs.Fractions.{lowest_terms}
 use Rattle.figures.specs.declared.Figures.{Figures}
-use Rattle.figures.specs.declared.Reckoning.{Reckoning}
-use Rattle.figures.specs.declared.Reckoning.TheVariants as Reckonings
 
 -- what the figures look at in a page's answer, and its day's number of processes ("each with its day's desk count"); the lender is 0
 -- where the page is clean
@@ -60,10 +58,10 @@ abbrev pub figure_causes : ℕ → List PageAnswer → List Cause
 figure_causes n xs =
     (outside 1 8 n, CountRange) ∷ (ltb 65535 (length xs), TooMany) ∷ (eqb (length (answers_for n xs)) 0, NoPage) ∷ []
 
-abbrev pub reckoned_by : List PageAnswer → Option Refusal → Reckoning
-reckoned_by xs none = Reckonings.Given (figures_of xs)
-reckoned_by xs (some k) = Reckonings.Refused k
+abbrev pub reckoned_by : List PageAnswer → Option Refusal → Result Figures Refusal
+reckoned_by xs none = Ok (figures_of xs)
+reckoned_by xs (some k) = Err k
 
 -- the figures for n, or why there are none
-unfoldable pub reckoned : ℕ → List PageAnswer → Reckoning
+unfoldable pub reckoned : ℕ → List PageAnswer → Result Figures Refusal
 reckoned n xs = reckoned_by (answers_for n xs) (first_cause (figure_causes n xs))

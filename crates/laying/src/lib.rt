@@ -1,66 +1,74 @@
-// Any printed line (crate `daytext`), laid into a lent buffer where there is room for it.
+// Any printed line (crate `daytext`), laid on a sheet where there is room for it.
 #![tactic(auto)]
 
 ghost use Rattle.std.specs.Prelude.{◌+◌, ◌≤◌, ◌≡◌, length};
-ghost use Rattle.texts.specs.Laying.{Laid};
+ghost use Rattle.texts.specs.Laying.{HasRoom, SameBuffer, Lays};
 ghost use Rattle.daytext.specs.Lines.{body_of};
 ghost use Rattle.daytext.specs.Buffer.{laid_place, laid_text};
 
-use daytext::{LONGEST, Line, lines};
-use texts::field;
+use daytext::{LONGEST, Line};
+use texts::Sheet;
 
 // Lays what a line tells, without its line feed.
-fn body(line: Line, words: &[u32], lasts: &[u32], out: &mut [u8], at: usize) -> usize
+fn body(line: Line, words: &[u32], lasts: &[u32], sheet: &mut Sheet<'_>)
     requires lasts_len_bound { length words.now + length lasts.now ≤ 16 }
-    requires at_in_bounds { at + 271 ≤ length out.old }
-    ensures laid { Laid out.old at (body_of line words.now lasts.now) out.new result }
-    ensures upper_bound { result ≤ at + 271 }
+    requires at_in_bounds { HasRoom sheet.old 271 }
+    ensures laid { Lays sheet.old (body_of line words.now lasts.now) sheet.new }
+    ensures upper_bound { sheet.new.at ≤ sheet.old.at + 271 }
 {
     match line {
-        Line::Opened { count } => field(b"open ", count, out, at),
+        Line::Opened { count } => sheet.field(b"open ", count),
         Line::Update {
-            event: n,
+            event,
             process,
             word,
-        } => lines::update(n, process, word, out, at),
-        Line::Scan { event: n, process } => lines::scan(n, process, out, at),
-        Line::Read { event: n, process } => lines::read(n, process, out, at),
+        } => {
+            sheet.pair(event, b" entry ", process);
+            sheet.field(b" ", word);
+        }
+        Line::Scan { event, process } => sheet.pair(event, b" asked ", process),
+        Line::Read { event, process } => sheet.pair(event, b" read ", process),
         Line::Written {
-            event: n,
+            event,
             process,
             turns,
-        } => lines::written(n, process, turns, out, at),
+        } => {
+            sheet.pair(event, b" written ", process);
+            sheet.field(b" turns ", turns);
+        }
         Line::Page {
-            event: n,
+            event,
             process,
             lender,
-            at: instant,
+            at,
             turns,
-        } => pagetext::page(n, process, lender, instant, turns, words, lasts, out, at),
-        Line::BookPage { number: n, process } => pagetext::book_page(n, process, words, out, at),
-        Line::Refused { number: n } => field(b"refused ", n, out, at),
-        Line::End { event: n } => field(b"end ", n, out, at),
+        } => pagetext::page(event, process, lender, at, turns, words, lasts, sheet),
+        Line::BookPage { number, process } => pagetext::book_page(number, process, words, sheet),
+        Line::Refused { number } => sheet.field(b"refused ", number),
+        Line::End { event } => sheet.field(b"end ", event),
     }
 }
 
-// Lays the line at `at` of `out` and answers the place after it; `words` are those of a page, and `lasts` the numbers of their last
-// writings. Where there are more than 16 of both, or fewer than LONGEST bytes are left, `out` stays as it is and the answer is `at`.
-pub fn lay(line: Line, words: &[u32], lasts: &[u32], out: &mut [u8], at: usize) -> usize
-    ensures value { result ≡ laid_place line words.now lasts.now out.old at }
-    ensures out_after { out.new ≡ laid_text line words.now lasts.now out.old at }
+// Lays the line; `words` are those of a page, and `lasts` the numbers of their last writings. Where there are more than 16 of both, or
+// fewer than LONGEST bytes are left, the sheet stays as it is.
+pub fn lay(line: Line, words: &[u32], lasts: &[u32], sheet: &mut Sheet<'_>)
+    ensures same_buffer { SameBuffer sheet.old sheet.new }
+    ensures value { sheet.new.at ≡ laid_place line words.now lasts.now sheet.old.out.now sheet.old.at }
+    ensures out_after { sheet.new.out.now
+        ≡ laid_text line words.now lasts.now sheet.old.out.now sheet.old.at }
 {
     if 16 < words.len() {
-        return at;
+        return;
     }
     if 16 - words.len() < lasts.len() {
-        return at;
+        return;
     }
-    if out.len() < LONGEST {
-        return at;
+    if sheet.out.len() < LONGEST {
+        return;
     }
-    if out.len() - LONGEST < at {
-        return at;
+    if sheet.out.len() - LONGEST < sheet.at {
+        return;
     }
-    let end = body(line, words, lasts, out, at);
-    texts::byte(b'\n', out, end)
+    body(line, words, lasts, sheet);
+    sheet.byte(b'\n');
 }

@@ -1,12 +1,14 @@
 -- Laws of laying text into a buffer.
 use Prim.Native.Nat.{ℕ, zero, suc, ◌+◌, ◌≤◌, ◌<◌}
 use native.Mathlib.Nat.{add-zero, not-suc-le-zero}
+use native.Mathlib.Numerals.{add-one}
 use native.Mathlib.Omega.{arith}
 use mathlib.Core.Path.{◌≡◌, refl, sym, ap, ap₂, ◌∙◌}
 use mathlib.Core.List.{List, [], ◌∷◌, ◌++◌, append_assoc, append-nil}
 use lib.ListN.{length, get_or, take, drop, set, length-append, take-append-drop}
 use lib.Seq.{length-take-le, take_at, drop_at, drop-drop, set_split, take-set-le}
-use Rattle.texts.specs.Laying.{with_text, Laid, each_text}
+use Rattle.texts.specs.declared.Sheet.{Sheet}
+use Rattle.texts.specs.Laying.{with_text, Laid, HasRoom, SameBuffer, Lays, each_text}
 
 module _ (out : List ℕ) (at : ℕ) where
   length_front : (s : List ℕ) → at ≤ length out → length (take at out ++ s) ≡ at + length s
@@ -81,6 +83,29 @@ laid_start {out} {text} l =
 pub none_laid : (out : List ℕ) {text : List ℕ} → text ≡ [] → Laid out 0 text out 0
 none_laid out e = laid_as (sym e) (record { buffer = sym (laid_nothing out 0); end = refl })
 
+-- ---- on a sheet
+
+pub same_then : {a b c : Sheet} → SameBuffer a b → SameBuffer b c → SameBuffer a c
+same_then one two = record { same_name = two.same_name ∙ one.same_name; same_length = two.same_length ∙ one.same_length }
+
+-- two texts laid one after the other are both laid as one
+pub lays_then : {a b c : Sheet} {s t : List ℕ} → HasRoom a 0 → Lays a s b → Lays b t c → Lays a (s ++ t) c
+lays_then room one two =
+    record {
+      buffer = same_then one.buffer two.buffer;
+      laid = in_turn (omega (arith, room)) one.laid two.laid;
+    }
+
+pub lays_nothing : (a : Sheet) → Lays a [] a
+lays_nothing a =
+    record {
+      buffer = record { same_name = refl; same_length = refl };
+      laid = record { buffer = sym (laid_nothing a.out.now a.at); end = sym (add-zero a.at) };
+    }
+
+pub lays_as : {a b : Sheet} {s t : List ℕ} → s ≡ t → Lays a s b → Lays a t b
+lays_as e l = rw e at l
+
 -- ---- texts one after the other
 
 module _ {A : Type 0} (f : A → List ℕ) where
@@ -94,3 +119,9 @@ module _ {A : Type 0} (f : A → List ℕ) where
   pub each_append : (xs ys : List A) → each_text f (xs ++ ys) ≡ each_text f xs ++ each_text f ys
   each_append [] ys = refl
   each_append (x ∷ xs) ys = ap (λ t. f x ++ t) (each_append xs ys) ∙ sym (append_assoc (f x) (each_text f xs) (each_text f ys))
+
+  -- and laid
+  pub lays_more : {a b c : Sheet} (xs : List A) (i : ℕ) (z : A) → i < length xs → HasRoom a 0
+      → Lays a (each_text f (take i xs)) b → Lays b (f (get_or xs i z)) c → Lays a (each_text f (take (i + 1) xs)) c
+  lays_more xs i z l room before next =
+      lays_as (each_more xs i z l ∙ ap (λ k. each_text f (take k xs)) (sym (add-one i))) (lays_then room before next)

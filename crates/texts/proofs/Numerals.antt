@@ -3,7 +3,7 @@ use Prim.Native.Nat.{ℕ, zero, suc, ◌+◌, ◌-◌, ◌*◌, ◌/◌, ◌%◌
 use native.Mathlib.Nat.{pow-suc, one-le-pow, not-suc-le-zero}
 use native.Mathlib.Decide.{dec_lt}
 use native.Mathlib.Omega.{arith}
-use mathlib.Core.Path.{◌≡◌, refl, ap, ◌∙◌}
+use mathlib.Core.Path.{◌≡◌, refl, sym, ap, ◌∙◌}
 use mathlib.Core.Logic.{by_cases}
 use mathlib.Core.List.{List, [], ◌∷◌, ◌++◌}
 use borrow.Author.Tests.{lt-ltb, le-ltb}
@@ -48,6 +48,24 @@ long_digit n h = numeral_digit 19 n h
 pub long_places : (j n : ℕ) → j ≤ 19 → 10 ^ j ≤ n → n < 10 ^ suc j → long_decimal n ≡ trailing_digits (suc j) n
 unfolding long_decimal
 long_places j n l g h = numeral_places 19 j n l g h
+
+-- more digits than a number has change nothing
+numeral_enough : (k j n : ℕ) → k ≤ j → n < 10 ^ suc k → numeral j n ≡ numeral k n
+numeral_enough zero j n l h = numeral_digit j n (omega arith)
+numeral_enough (suc k) zero n l h = absurd (not-suc-le-zero l)
+numeral_enough (suc k) (suc j) n l h =
+    by_cases (dec_lt n 10)
+    (λ d. numeral_digit (suc j) n d ∙ sym (numeral_digit (suc k) n d))
+    (λ g.
+    let ten : 10 ≤ n = omega arith in
+    numeral_more j n ten
+    ∙ ap (λ s. s ++ (last_digit n ∷ [])) (numeral_enough k j (n / 10) (omega arith) (omega (arith, pow-suc 10 (suc k))))
+    ∙ sym (numeral_more k n ten))
+
+-- a number of 32 bits is the same in both
+pub long_is_decimal : (n : ℕ) → n < 2 ^ 32 → long_decimal n ≡ decimal n
+unfolding decimal long_decimal
+long_is_decimal n h = numeral_enough 9 19 n (omega arith) (omega arith)
 
 pub length_last_digits : (k n : ℕ) → length (trailing_digits k n) ≡ k
 length_last_digits zero n = refl

@@ -1,22 +1,17 @@
 -- `booklines::lay_places` meets its contract.
 use native.Mathlib.Omega.{arith}
-use native.Mathlib.Numerals.{add-one}
-use mathlib.Core.Path.{refl}
 use mathlib.Core.List.{[]}
-use Rattle.texts.proofs.Laying.{in_turn, none_laid, each_more}
+use Rattle.texts.proofs.Laying.{lays_nothing, lays_more}
 use Rattle.booklines.specs.PlaceText.{place_text}
 use Rattle.booklines.proofs.lay_places.Goals as goal
 
-pub loop-i-init : goal.loop-i-init
-loop-i-init c = (omega arith, omega arith, refl, none_laid c.args.out.now refl)
+pub loop-place-init : goal.loop-place-init
+loop-place-init c = (omega arith, lays_nothing _)
 
-pub loop-i-preserved : goal.loop-i-preserved
-loop-i-preserved c =
-    let a = c.args in
-    let i = c.loop-i.i in (
+pub loop-place-preserved : goal.loop-place-preserved
+loop-place-preserved c =
+    let a = c.args in (
       omega arith,
-      omega arith,
-      omega arith,
-      rw (add-one i, ← (each_more (place_text a.n) a.book.now i [] (omega arith)))
-          (in_turn (omega arith) c.loop-i.invariant.3 c.lay_place-at.ensures.laid),
+      lays_more (place_text a.n) a.places.now c.loop-place.place-index [] c.loop-place-test.true (omega arith) c.loop-place.invariant.1
+          c.lay_place.ensures.laid,
     )

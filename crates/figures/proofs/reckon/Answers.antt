@@ -6,7 +6,7 @@ use mathlib.Core.Bool.{true, false}
 use lib.Dec.{ltb}
 use lib.ListN.{length, length-map}
 use borrow.Author.Tests.{lt-ltb, le-ltb, eq-eqb, ne_eqb}
-use Rattle.figures.specs.declared.Reckoning.TheVariants.{Given}
+use Rattle.std.specs.Prelude.{Ok}
 use Rattle.figures.specs.Figures.{answer_in}
 use Rattle.figures.proofs.Summed.{pages_counted, figures_come, reckoned_by_lem}
 use Rattle.figures.proofs.reckon.Goals as goal
@@ -39,7 +39,7 @@ returns c =
     let a = c.args in
     let xs = map answer_in a.answers.now in
     let sums = c.sum_up-s.ensures in
-    ap Given (figures_come a.desks _ xs sums _ _ c.lowest.ensures c.lowest-2.ensures)
+    ap Ok (figures_come a.desks _ xs sums _ _ c.lowest.ensures c.lowest-2.ensures)
     ∙ reckoned_by_lem a.desks xs false false false false (le-ltb _ 1 c.if-desks-lt1.false)
     (le-ltb 8 _ c.if-desks-gt8.false) (few-answers a.answers.now c.if-answers-gt-MOST.false)
     (ne_eqb _ 0 (λ z. c.if-s-eq0.false (pages_counted a.desks _ xs sums ∙ z)))

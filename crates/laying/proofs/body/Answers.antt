@@ -1,69 +1,44 @@
--- `laying::body` meets its contract: each arm is the clause of its line.
-use mathlib.Core.List.{append-nil}
+-- `laying::body` meets its contract: each arm's parts, as they are laid, are its line's text.
+use native.Mathlib.Omega.{arith}
+use mathlib.Core.List.{append_assoc, append-nil}
 use Rattle.daytext.specs.Lines.{body_of}
-use borrow.Author.Rules.{rules}
+use Rattle.texts.proofs.Laying.{lays_then}
 use Rattle.laying.proofs.body.Goals as goal
 
-pub returns-in-Opened : goal.returns-in-Opened
+pub returns-in-Opened-clause-laid : goal.returns-in-Opened-clause-laid
 unfolding body_of
-returns-in-Opened c =
-    record {
-      laid = rw c.in-Opened.is (simp append-nil c.field.ensures.laid);
-      upper_bound = search rules;
-    }
+returns-in-Opened-clause-laid c = rw c.in-Opened.is (simp append-nil c.field.ensures.laid)
 
-pub returns-in-Update : goal.returns-in-Update
+pub returns-in-Update-clause-laid : goal.returns-in-Update-clause-laid
 unfolding body_of
-returns-in-Update c =
-    record {
-      laid = rw c.in-Update.is c.update.ensures.laid;
-      upper_bound = search rules;
-    }
+returns-in-Update-clause-laid c =
+    let all = lays_then (omega arith) c.pair.ensures.laid c.field-in-Update.ensures.laid in
+    let text = simp append_assoc at all in
+    rw c.in-Update.is (simp append-nil text)
 
-pub returns-in-Scan : goal.returns-in-Scan
+pub returns-in-Scan-clause-laid : goal.returns-in-Scan-clause-laid
 unfolding body_of
-returns-in-Scan c =
-    record {
-      laid = rw c.in-Scan.is c.scan.ensures.laid;
-      upper_bound = search rules;
-    }
+returns-in-Scan-clause-laid c = rw c.in-Scan.is (simp append-nil c.pair-in-Scan.ensures.laid)
 
-pub returns-in-Read : goal.returns-in-Read
+pub returns-in-Read-clause-laid : goal.returns-in-Read-clause-laid
 unfolding body_of
-returns-in-Read c =
-    record {
-      laid = rw c.in-Read.is c.read.ensures.laid;
-      upper_bound = search rules;
-    }
+returns-in-Read-clause-laid c = rw c.in-Read.is (simp append-nil c.pair-in-Read.ensures.laid)
 
-pub returns-in-Written : goal.returns-in-Written
+pub returns-in-Written-clause-laid : goal.returns-in-Written-clause-laid
 unfolding body_of
-returns-in-Written c =
-    record {
-      laid = rw c.in-Written.is c.written.ensures.laid;
-      upper_bound = search rules;
-    }
+returns-in-Written-clause-laid c =
+    let all = lays_then (omega arith) c.pair-in-Written.ensures.laid c.field-in-Written.ensures.laid in
+    let text = simp append_assoc at all in
+    rw c.in-Written.is (simp append-nil text)
 
-pub returns-in-BookPage : goal.returns-in-BookPage
+pub returns-in-BookPage-clause-laid : goal.returns-in-BookPage-clause-laid
 unfolding body_of
-returns-in-BookPage c =
-    record {
-      laid = rw c.in-BookPage.is c.book_page.ensures.laid;
-      upper_bound = search rules;
-    }
+returns-in-BookPage-clause-laid c = rw c.in-BookPage.is c.book_page.ensures.laid
 
-pub returns-in-Refused : goal.returns-in-Refused
+pub returns-in-Refused-clause-laid : goal.returns-in-Refused-clause-laid
 unfolding body_of
-returns-in-Refused c =
-    record {
-      laid = rw c.in-Refused.is (simp append-nil c.field-in-Refused.ensures.laid);
-      upper_bound = search rules;
-    }
+returns-in-Refused-clause-laid c = rw c.in-Refused.is (simp append-nil c.field-in-Refused.ensures.laid)
 
-pub returns-in-End : goal.returns-in-End
+pub returns-in-End-clause-laid : goal.returns-in-End-clause-laid
 unfolding body_of
-returns-in-End c =
-    record {
-      laid = rw c.in-End.is (simp append-nil c.field-in-End.ensures.laid);
-      upper_bound = search rules;
-    }
+returns-in-End-clause-laid c = rw c.in-End.is (simp append-nil c.field-in-End.ensures.laid)

@@ -1,15 +1,11 @@
 -- `mendlines::lay_row` meets its contract.
 use native.Mathlib.Omega.{arith}
-use Rattle.texts.proofs.Laying.{in_turn, laid_as}
+use Rattle.texts.proofs.Laying.{lays_then, lays_as}
 use Rattle.mendlines.proofs.Texts.{drop_text_lem}
-use borrow.Author.Rules.{rules}
 use Rattle.mendlines.proofs.lay_row.Goals as goal
 
-pub returns : goal.returns
-returns c =
-    let first = in_turn (omega arith) c.field-a.ensures.laid c.field-b.ensures.laid in
-    let number = in_turn (omega arith) first c.field-c.ensures.laid in
-    record {
-      laid = laid_as (drop_text_lem _) (in_turn (omega arith) number c.byte.ensures);
-      upper_bound = search rules;
-    }
+pub returns-clause-laid : goal.returns-clause-laid
+returns-clause-laid c =
+    let first = lays_then (omega arith) c.field.ensures.laid c.field-2.ensures.laid in
+    let number = lays_then (omega arith) first c.field-3.ensures.laid in
+    lays_as (drop_text_lem _) (lays_then (omega arith) number c.byte.ensures)

@@ -1,22 +1,15 @@
 -- `mendlines::lay_rows` meets its contract.
 use native.Mathlib.Omega.{arith}
-use native.Mathlib.Numerals.{add-one}
-use mathlib.Core.Path.{refl}
 use mathlib.Core.List.{[]}
-use Rattle.texts.proofs.Laying.{in_turn, none_laid, each_more}
+use Rattle.texts.proofs.Laying.{lays_nothing, lays_more}
 use Rattle.mendlines.specs.DropText.{row_text}
 use Rattle.mendlines.proofs.lay_rows.Goals as goal
 
-pub loop-i-init : goal.loop-i-init
-loop-i-init c = (omega arith, omega arith, refl, none_laid c.args.out.now refl)
+pub loop-row-init : goal.loop-row-init
+loop-row-init c = (omega arith, lays_nothing _)
 
-pub loop-i-preserved : goal.loop-i-preserved
-loop-i-preserved c =
-    let a = c.args in
-    let i = c.loop-i.i in (
-      omega arith,
-      omega arith,
-      omega arith,
-      rw (add-one i, ← (each_more row_text a.rows.now i [] (omega arith)))
-          (in_turn (omega arith) c.loop-i.invariant.3 c.lay_row-at.ensures.laid),
-    )
+pub loop-row-preserved : goal.loop-row-preserved
+loop-row-preserved c = (
+  omega arith,
+  lays_more row_text c.args.rows.now c.loop-row.row-index [] c.loop-row-test.true (omega arith) c.loop-row.invariant.1 c.lay_row.ensures.laid,
+)

@@ -2,16 +2,11 @@
 use mathlib.Core.List.{append_assoc}
 use native.Mathlib.Omega.{arith}
 use Rattle.daytext.specs.Lines.{body_of}
-use Rattle.texts.proofs.Laying.{in_turn}
-use borrow.Author.Rules.{rules}
+use Rattle.texts.proofs.Laying.{lays_then}
 use Rattle.pagetext.proofs.book_page.Goals as goal
 
-pub returns : goal.returns
+pub returns-clause-laid : goal.returns-clause-laid
 unfolding body_of
-returns c =
-    let process = in_turn (omega arith) c.number-a.ensures.laid c.field-b.ensures.laid in
-    let all = in_turn (omega arith) process c.named_numbers.ensures.laid in
-    record {
-      laid = simp append_assoc at all;
-      upper_bound = search rules;
-    }
+returns-clause-laid c =
+    let all = lays_then (omega arith) c.pair.ensures.laid c.list.ensures.laid in
+    simp append_assoc at all

@@ -8,13 +8,13 @@ use Rattle.texts.specs.Ascii.{ascii}
 use Rattle.texts.specs.Decimal.{decimal}
 use Rattle.texts.specs.Laying.{spaced}
 use Rattle.daytext.specs.Lines.{body_of}
-use Rattle.texts.proofs.Laying.{in_turn, laid_as}
-use borrow.Author.Rules.{rules}
+use Rattle.texts.proofs.Laying.{lays_then, lays_as}
 use Rattle.pagetext.proofs.page.Goals as goal
 
 -- the parts, as they are laid
 page-text : (e p l i t : ℕ) (ws es : List ℕ)
-    → decimal e ++ (ascii " page " ++ decimal p) ++ (ascii " from " ++ decimal l)
+    → (decimal e ++ (ascii " page " ++ decimal p))
+    ++ (ascii " from " ++ decimal l)
     ++ (ascii " at " ++ decimal i)
     ++ (ascii " turns " ++ decimal t)
     ++ (ascii " words" ++ spaced (map decimal ws))
@@ -23,12 +23,10 @@ page-text : (e p l i t : ℕ) (ws es : List ℕ)
 unfolding body_of
 page-text e p l i t ws es = simp append_assoc
 
-pub returns : goal.returns
-returns c =
-    let instant = in_turn (omega arith) c.lent-a.ensures.laid c.field-b.ensures.laid in
-    let turns = in_turn (omega arith) instant c.field-c.ensures.laid in
-    let words = in_turn (omega arith) turns c.named_numbers-d.ensures.laid in
-    record {
-      laid = laid_as (page-text _ _ _ _ _ _ _) (in_turn (omega arith) words c.named_numbers.ensures.laid);
-      upper_bound = search rules;
-    }
+pub returns-clause-laid : goal.returns-clause-laid
+returns-clause-laid c =
+    let lent = lays_then (omega arith) c.pair.ensures.laid c.field.ensures.laid in
+    let instant = lays_then (omega arith) lent c.field-2.ensures.laid in
+    let turns = lays_then (omega arith) instant c.field-3.ensures.laid in
+    let words = lays_then (omega arith) turns c.list.ensures.laid in
+    lays_as (page-text _ _ _ _ _ _ _) (lays_then (omega arith) words c.list-2.ensures.laid)

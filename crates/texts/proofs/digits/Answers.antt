@@ -22,11 +22,10 @@ loop-i-preserved c =
     let loop = c.loop-i in
     let at = c.args.at in
     let i : suc (loop.i - 1) ≡ loop.i = omega arith in (
-      omega arith,
       simp length-set (omega arith),
       laid-digit loop.out at (loop.i - 1) loop.rest (omega arith)
           ∙ ap (λ k. with_text loop.out at (trailing_digits k loop.rest)) i
-          ∙ loop.invariant.2,
+          ∙ loop.invariant.1,
     )
 
 pub returns : goal.returns
@@ -34,4 +33,4 @@ returns c =
     let loop = c.loop-i in
     let at = c.args.at in
     let none : 0 ≡ loop.i = omega arith in
-    sym (laid_nothing loop.out at) ∙ ap (λ k. with_text loop.out at (trailing_digits k loop.rest)) none ∙ loop.invariant.2
+    sym (laid_nothing loop.out at) ∙ ap (λ k. with_text loop.out at (trailing_digits k loop.rest)) none ∙ loop.invariant.1

@@ -1,2 +1,0 @@
--- Numerals of up to twenty digits.
-pub mod Digits

@@ -1,0 +1,6 @@
+use Rattle.std.proofs.Common.{arith}
+use Rattle.texts.proofs.Laying.{lays_then}
+use Rattle.texts.proofs.Sheet.pair.Goals as goal
+
+pub returns-clause-laid : goal.returns-clause-laid
+returns-clause-laid g c = lays_then (omega arith) c.number.ensures.laid c.field.ensures.laid

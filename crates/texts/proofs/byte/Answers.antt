@@ -1,7 +1,0 @@
-use mathlib.Core.Path.{refl}
-use borrow.Author.Rules.{rules}
-use Rattle.texts.proofs.Laying.{laid_byte}
-use Rattle.texts.proofs.byte.Goals as goal
-
-pub returns : goal.returns
-returns c = record { buffer = laid_byte _ _ _ (search rules); end = refl }
