@@ -1,7 +1,7 @@
 -- A lap runs the record that stands next and lays its line, and the laps that are left come to the rest.
 use Prim.Native.Nat.{ℕ, ◌≤◌, ◌<◌}
 use native.Mathlib.Omega.{arith}
-use mathlib.Core.Path.{◌≡◌, sym, ap, ap₂, subst, ◌∙◌}
+use mathlib.Core.Path.{◌≡◌, sym, ap, subst, ◌∙◌}
 use mathlib.Core.List.{◌++◌}
 use lib.ListN.{length, take, drop, length-append, length-drop}
 use Rattle.std.proofs.lemmas.List.{length-take-le}
@@ -11,7 +11,7 @@ use Rattle.days.proofs.Kept.{lent_to_le}
 use Rattle.daytext.specs.Buffer.{laid_place, laid_text}
 use Rattle.daylines.specs.Printed.{line_of}
 use Rattle.laps.specs.Laps.{ran}
-use Rattle.laps.specs.Progress.{progress_past, lines_left, CanLay, stand_at}
+use Rattle.laps.specs.Progress.{progress_past, lines_left, CanLay}
 use Rattle.laps.proofs.Laps.{Turn, stand_in, next_turn, lap_fewer, lap_ready, lap_done, no_lap}
 use Rattle.laps.proofs.records.run.Goals as goal
 
@@ -82,7 +82,5 @@ pub returns-clause-out_after : goal.returns-clause-out_after
 returns-clause-out_after c =
     let l = c.loop-x in
     let t : Turn = record { progress = l.progress; table = l.table; page = l.page; out = l.out } in
-    let e = c.with_table.ensures in
     let halts = sym c.can_go.ensures ∙ c.loop-x-test.false in
-    ap₂ (λ q xs. stand_at q xs l.page c.args.bytes.now l.out) e.0 e.1
-    ∙ sym (l.invariant.1 ∙ no_lap t c.args.bytes.now l.invariant.0 halts)
+    sym (l.invariant.1 ∙ no_lap t c.args.bytes.now l.invariant.0 halts)
