@@ -19,7 +19,8 @@ use unbounded::Process;
 // The longest record, in bytes.
 const WHOLE: usize = 10;
 
-// How far a run has come: the day, the input, how much of the output is laid, and whether all is done.
+// How far a run has come: the day, the input, how much of the output is laid, and whether all is done. The flag stays a flag: a run that
+// has ended keeps its other fields, whose lines are still to be written, so that an enum would name all of them twice.
 #[derive(Clone, Copy)]
 pub struct Progress {
     pub day: Day,
