@@ -1,11 +1,15 @@
 -- What was read, what was laid of it, and whether it was taken.
-use Rattle.std.proofs.Common.{subst, arith}
+use Rattle.std.proofs.Common.{is_ok, sym, subst}
+use Rattle.std.proofs.Math.Seq.{length-take-le}
 use Rattle.streams.specs.System.{IsSent}
 use Rattle.texts.proofs.Laying.{laid_start}
 use Rattle.day_book.proofs.run.Goals as goal
 
-pub write_out-requires : goal.write_out-requires
-write_out-requires c = let room = (laid_start c.lay_input-n.ensures).1 in omega (arith, room)
+pub slice_bounds-write_out-end : goal.slice_bounds-write_out-end
+slice_bounds-write_out-end c = (laid_start c.lay_input-n.ensures).1
+
+pub slice_bounds-write_out-end-2 : goal.slice_bounds-write_out-end-2
+slice_bounds-write_out-end-2 c = sym (length-take-le _ c.lay_input-n.new.out (laid_start c.lay_input-n.ensures).1)
 
 pub returns : goal.returns
 returns c =
@@ -14,5 +18,5 @@ returns c =
       whole = c.whole-input.ensures;
       end = c.lay_input-n.result;
       laid = c.lay_input-n.ensures;
-      sent = subst (λ t. IsSent t c.write_out.result) (laid_start c.lay_input-n.ensures).0 c.write_out.ensures;
+      sent = subst (λ t. IsSent t (is_ok c.write_out.result)) (laid_start c.lay_input-n.ensures).0 c.write_out.ensures;
     }
