@@ -1,4 +1,4 @@
--- A pass of the program: there is room for what its parts come to (`room-enough`), and these are handed to the system (`passed`). What is
+-- A pass of the program: there is room for what its parts come to (`room_enough`), and these are handed to the system (`passed`). What is
 -- handed to it by passes one after the other are the parts of the file (`Ahead`).
 use Prim.Native.Nat.{ℕ, ◌*◌, ◌≤◌, ◌<◌}
 use native.Mathlib.Decide.{dec_lt}

@@ -16,7 +16,7 @@ ghost use Rattle.day_mend.specs.Runs.{Rooms, Tells, IsWritten, Writes, IsPassed,
 
 use mender::Progress;
 use snapshot::Day;
-use streams::input::Input;
+use streams::input::{Input, State};
 use streams::{input, output};
 
 // The bytes of the longest day file, and one more: a file that fills the buffer is too long.
@@ -31,14 +31,15 @@ const ROOM: usize = 10240;
 // Room for as many lines, 82 bytes each.
 const LINES: usize = 83968;
 
-// Whether standard output took all that was written, and whether every drop could be told.
+// Whether standard output took all that was written, and whether every drop could be told. Two flags, since neither says the other, and
+// one theorem speaks of each (`day_mend_written` and `day_mend_told`, proofs/Written).
 #[derive(Clone, Copy)]
 struct Writing {
     went: bool,
     told: bool,
 }
 
-// How far a file has come: the day, the place of the next byte, and how the writes went.
+// How far a file has come: the day, the place of the next byte, and how the writes went, as in Writing.
 #[derive(Clone, Copy)]
 struct Stand {
     day: Day,
@@ -56,13 +57,13 @@ fn tell(rt: &HostRuntime, telling: bool, rows: &[[u64; 3]], count: usize, lines:
         return false;
     }
     let n = mendlines::lay_rows(rows, count, lines);
-    output::write_to(
+    let sent = output::write_to(
         &mut rt.stderr(),
-        lines,
-        n,
+        &lines[..n],
         b"day_mend: cannot write standard error",
         &mut rt.stderr(),
-    )
+    );
+    sent.is_ok()
 }
 
 // Writes what is kept, and tells what is dropped. A drop that cannot be told does not hold up the file.
@@ -77,14 +78,17 @@ fn write_pass(
     requires { (s.kept ≤ length room.now) × (s.drops ≤ length rows.now) × (longest_drop * s.drops ≤ length lines.old) }
     ensures { IsWritten (take s.kept room.now) (rows_text (take s.drops rows.now)) telling result.went result.told }
 {
-    if !output::write_out(rt, room, s.kept, b"day_mend: cannot write standard output") {
-        return Writing {
+    let kept = &room[..s.kept];
+    match output::write_out(rt, kept, b"day_mend: cannot write standard output") {
+        Ok(()) => Writing {
+            went: true,
+            told: tell(rt, telling, rows, s.drops, lines),
+        },
+        Err(_) => Writing {
             went: false,
             told: telling,
-        };
+        },
     }
-    let told = tell(rt, telling, rows, s.drops, lines);
-    Writing { went: true, told }
 }
 
 // Mends the next pieces of a file, and writes what they come to.
@@ -101,18 +105,16 @@ fn pass_on(
     requires { HasNext s.at bytes.now t.old × Rooms (length room.old) (length rows.old) (length lines.old) }
     ensures { IsPassed bytes.now s t.old page.old result t.new page.new }
 {
-    let day = s.day;
     let from = Progress {
-        day,
+        day: s.day,
         at: s.at,
         kept: 0,
         drops: 0,
     };
     let p = mender::pass(from, PIECES, bytes, t, page, room, rows);
     let w = write_pass(rt, p, s.told, room, rows, lines);
-    let after = p.day;
     Stand {
-        day: after,
+        day: p.day,
         at: p.at,
         went: w.went,
         told: w.told,
@@ -164,16 +166,6 @@ fn mend(
     passes(rt, bytes, &mut t, &mut page, room, rows, lines)
 }
 
-// Nothing was to be written.
-fn nothing() -> Writing
-    ensures { (result.went ≡ true) × (result.told ≡ true) }
-{
-    Writing {
-        went: true,
-        told: true,
-    }
-}
-
 // Mends an input that came whole; a read that failed was told where it failed.
 fn mend_input(
     rt: &HostRuntime,
@@ -186,15 +178,18 @@ fn mend_input(
     requires { (input.at ≡ 0) × (input.end ≤ length bytes.now) × Rooms (length room.old) (length rows.old) (length lines.old) }
     ensures { Writes 0 true (parts_written (incoming input bytes.now)) result.went result.told }
 {
-    if input.failed {
-        return nothing();
+    let nothing = Writing {
+        went: true,
+        told: true,
+    };
+    match input.state {
+        State::Ended => mend(rt, &bytes[..input.end], room, rows, lines),
+        State::Open => {
+            let _ = eprintln!(rt; "day_mend: the day file has more than 6291456 bytes");
+            nothing
+        }
+        State::Broken => nothing,
     }
-    if !input.last {
-        let _ = eprintln!(rt; "day_mend: the day file has more than 6291456 bytes");
-        return nothing();
-    }
-    let end = input.end;
-    mend(rt, &bytes[..end], room, rows, lines)
 }
 
 // Reads the whole input, and mends it.

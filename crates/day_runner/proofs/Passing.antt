@@ -1,5 +1,5 @@
 -- One pass, from what the functions that it calls ensure.
-use Prim.Native.Nat.{ℕ, ◌+◌, ◌-◌, ◌*◌, ◌/◌, ◌≤◌, ◌<◌}
+use Prim.Native.Nat.{ℕ, ◌+◌, ◌-◌, ◌*◌, ◌/◌, ◌≤◌}
 use native.Mathlib.Omega.{arith}
 use mathlib.Core.Path.{◌≡◌, sym, ap, ap₂, subst, ◌∙◌}
 use mathlib.Core.Bool.{Bool, true, false, cond}
@@ -87,15 +87,15 @@ passes_more [] s t u e unended p =
     (unended, (subst (λ (z : Stand). IsSent z.lines p.did.went) p.stands p.sent, sym p.stands))
 passes_more (q ∷ ps) s t u h unended p = (h.0, (h.1.0, passes_more ps _ t u h.1.1 unended p))
 
--- the passes of a run so far, of which `left` more can be made
-abbrev pub Made : (most left : ℕ) → Stand → Type 0
-Made most left t = (ps : List Did) × ((length ps + left ≡ most) × LeadsTo blank_stand ps t)
+-- the passes of a run so far, which are so many
+abbrev pub Made : ℕ → Stand → Type 0
+Made made t = (ps : List Did) × ((length ps ≡ made) × LeadsTo blank_stand ps t)
 
-pub made_more : (most left : ℕ) (t u : Stand) → 0 < left → t.ended ≡ false → Made most left t → IsPass t u → Made most (left - 1) u
-made_more most left t u some unended h p =
+pub made_more : (made : ℕ) (t u : Stand) → t.ended ≡ false → Made made t → IsPass t u → Made (made + 1) u
+made_more made t u unended h p =
     let long = length-append h.0 (p.did ∷ []) in
     let n = h.1.0 in
-    (h.0 ++ (p.did ∷ []), (omega (arith, long, n, some), passes_more h.0 blank_stand t u h.1.1 unended p))
+    (h.0 ++ (p.did ∷ []), (omega (arith, long, n), passes_more h.0 blank_stand t u h.1.1 unended p))
 
 -- ---- the beginning
 

@@ -25,22 +25,17 @@ fn pass(rt: &HostRuntime, r: Running, bytes: &mut [u8], out: &mut [u8], page: &m
         (stand_of r page.old bytes.old out.old)
         (stand_of result page.new bytes.new out.new) }
 {
-    let before = r.progress.input;
     let input = input::refill(
         &mut rt.stdin(),
         bytes,
-        before,
+        r.progress.input,
         b"day_runner: cannot read standard input",
         &mut rt.stderr(),
     );
     let ran = records::run(records::refilled(r, input), bytes, out, page);
-    let went = output::write_out(
-        rt,
-        out,
-        ran.progress.written,
-        b"day_runner: cannot write standard output",
-    );
-    records::flushed(ran, went)
+    let lines = &out[..ran.progress.written];
+    let sent = output::write_out(rt, lines, b"day_runner: cannot write standard output");
+    records::flushed(ran, sent.is_ok())
 }
 
 // Passes until all is done, at most that many: a proved loop has to end, and nothing says that the input does.
@@ -57,15 +52,16 @@ fn passes(
     ensures { IsRun most (stand_of result page.new bytes.new out.new) }
 {
     let mut ran = r;
-    let mut left = most;
-    while left > 0 && !ran.progress.ended {
+    for _ in 0..most {
+        if ran.progress.ended {
+            break;
+        }
         ran = pass(rt, ran, bytes, out, page);
-        left -= 1;
     }
     ran
 }
 
-// The passes are counted down from a number that none uses up.
+// The passes are counted up to a number that they never reach.
 fn main(rt: HostRuntime) {
     let mut bytes = [0u8; INPUT];
     let mut out = [0u8; OUTPUT];

@@ -1,5 +1,6 @@
 -- Whatever the read gave there is room for its lines, and the pass is a pass of the specification.
-use Rattle.std.proofs.Common.{length, sym, subst}
+use Rattle.std.proofs.Common.{length, take, sym, subst}
+use Rattle.streams.specs.System.{IsSent}
 use Rattle.laps.specs.Progress.{Rests}
 use Rattle.day_runner.proofs.Passing.{refilled_can_lay, pass_is, pass_rests}
 use Rattle.day_runner.proofs.pass.Goals as goal
@@ -20,7 +21,7 @@ returns-clause-rests c =
     let run = c.run-ran in
     let end = c.flushed in
     pass_rests a.r ready.result run.result end.result refill.result a.bytes.now refill.new.bytes a.page.now a.out.now run.new.page
-    run.new.out c.write_out-went.result c.requires.0 c.requires.1 refill.auto.bytes run.auto.out run.auto.page ready.ensures.0
+    run.new.out c.is_ok.result c.requires.0 c.requires.1 refill.auto.bytes run.auto.out run.auto.page ready.ensures.0
     run.ensures.can_lay run.ensures.out_after end.ensures.0
 
 pub returns-clause-pass : goal.returns-clause-pass
@@ -29,8 +30,9 @@ returns-clause-pass c =
     let refill = c.refill-input in
     let ready = c.refilled in
     let run = c.run-ran in
-    let out = c.write_out-went in
+    let out = c.write_out-sent in
     let end = c.flushed in
     pass_is a.r ready.result run.result end.result refill.result a.bytes.now refill.new.bytes a.page.now a.out.now run.new.page
-    run.new.out out.result refill.ensures.1 ready.ensures.0 ready.ensures.1 run.ensures.out_after out.ensures end.ensures.0
+    run.new.out c.is_ok.result refill.ensures.1 ready.ensures.0 ready.ensures.1 run.ensures.out_after
+    (subst (IsSent (take run.result.progress.written run.new.out)) (sym c.is_ok.ensures.value) out.ensures) end.ensures.0
     end.ensures.1
