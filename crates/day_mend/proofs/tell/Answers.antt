@@ -11,7 +11,7 @@ slice_bounds-write_to-end c = (laid_start c.lay_rows-n.ensures).1
 
 pub slice_bounds-write_to-end-2 : goal.slice_bounds-write_to-end-2
 slice_bounds-write_to-end-2 c =
-    let room = length-take-le c.lay_rows-n.result c.lay_rows-n.new.lines (laid_start c.lay_rows-n.ensures).1 in
+    let room = length-take-le c.lay_rows-n.result c.lay_rows-n.new.out (laid_start c.lay_rows-n.ensures).1 in
     omega (arith, room)
 
 pub returns : goal.returns
