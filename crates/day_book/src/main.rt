@@ -66,12 +66,11 @@ fn lay_input(
 // Reads the whole input, and writes the text of its book.
 fn run(
     rt: &HostRuntime,
-    bytes: &mut [u8],
-    places: &mut [[u32; 11]],
-    out: &mut [u8],
+    bytes: &mut [u8; INPUT],
+    places: &mut [[u32; 11]; PLACES],
+    out: &mut [u8; OUTPUT],
 ) -> Result<(), Unsent>
-    requires { LinesFit (length places.old) (length out.old) }
-    ensures { IsBookRun (length places.old) bytes.new out.old out.new (is_ok result) }
+    ensures { IsBookRun 21845 bytes.new out.old out.new (is_ok result) }
 {
     let input = input::whole(
         &mut rt.stdin(),
@@ -83,22 +82,10 @@ fn run(
     output::write_out(rt, &out[..n], b"day_book: cannot write standard output")
 }
 
-// The run on buffers of these sizes.
-fn start(
-    rt: &HostRuntime,
-    bytes: &mut [u8; INPUT],
-    places: &mut [[u32; 11]; PLACES],
-    out: &mut [u8; OUTPUT],
-) -> Result<(), Unsent>
-    ensures { IsBookRun 21845 bytes.new out.old out.new (is_ok result) }
-{
-    run(rt, bytes, places, out)
-}
-
 // The run, with room for the longest day file and the book of any.
 fn main(rt: HostRuntime) {
     let mut bytes = [0u8; INPUT];
     let mut places = [[0u32; 11]; PLACES];
     let mut out = [0u8; OUTPUT];
-    let _ = start(&rt, &mut bytes, &mut places, &mut out);
+    let _ = run(&rt, &mut bytes, &mut places, &mut out);
 }

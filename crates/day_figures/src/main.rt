@@ -40,26 +40,9 @@ fn lay(desks: u32, gathered: Option<usize>, answers: &[[u32; 3]], out: &mut [u8]
     }
 }
 
-// Reads the files that the arguments from the third to the last of n name, and writes the line of their figures.
+// Reads the files that the arguments from the third to the last of n name, and writes the line of their figures. A label begins the same
+// for each file.
 fn run(
-    rt: &HostRuntime,
-    desks: u32,
-    n: usize,
-    label: &mut [u8],
-    bytes: &mut [u8],
-    answers: &mut [[u32; 3]],
-    out: &mut [u8],
-) -> Result<(), Unsent>
-    requires { (2 ≤ n) × (25 ≤ length label.old) × (65535 < length answers.old) × (272 ≤ length out.old) }
-    ensures { IsFiguresRun desks (n - 2) (length bytes.old) out.old out.new (is_ok result) }
-{
-    let gathered = quarters::read_days(rt, n, label, bytes, answers, &mut rt.stderr());
-    let end = lay(desks, gathered, answers, out);
-    output::write_out(rt, &out[..end], b"day_figures: cannot write standard output")
-}
-
-// The run on buffers of these sizes. A label begins the same for each file.
-fn lent(
     rt: &HostRuntime,
     desks: u32,
     n: usize,
@@ -72,7 +55,9 @@ fn lent(
     ensures { IsFiguresRun desks (n - 2) 2097153 out.old out.new (is_ok result) }
 {
     texts::bytes(b"day_figures: cannot read ", label, 0);
-    run(rt, desks, n, label, bytes, answers, out)
+    let gathered = quarters::read_days(rt, n, label, bytes, answers, &mut rt.stderr());
+    let end = lay(desks, gathered, answers, out);
+    output::write_out(rt, &out[..end], b"day_figures: cannot write standard output")
 }
 
 // The run, with room for the longest day file, for more answers than figures are made of, and for the line.
@@ -83,7 +68,7 @@ fn start(rt: &HostRuntime, desks: u32, n: usize)
     let mut bytes = [0u8; INPUT];
     let mut answers = [[0u32; 3]; ANSWERS];
     let mut out = [0u8; OUTPUT];
-    let _ = lent(rt, desks, n, &mut label, &mut bytes, &mut answers, &mut out);
+    let _ = run(rt, desks, n, &mut label, &mut bytes, &mut answers, &mut out);
 }
 
 // Reads the desk count, which is the first of n arguments, and starts the run with it.

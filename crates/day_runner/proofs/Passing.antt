@@ -32,6 +32,12 @@ module _ (p : Progress) (size room words : ℕ) (rests : Rests p size room words
       let r = rests.size_of_output in
       record { within = within; room_left = omega (arith, l, r); few = rests.few })
 
+-- and in buffers of these lengths
+pub lay_in : {p : Progress} {size room words : ℕ} → CanLay p size room words → (a b c : ℕ) → a ≡ size → b ≡ room → c ≡ words →
+    CanLay p a b c
+lay_in {p} {size} {room} ready a b c q r s =
+    subst (λ n. CanLay p n b c) (sym q) (subst (λ n. CanLay p size n c) (sym r) (subst (CanLay p size room) (sym s) ready))
+
 module _ (r ready x y : Running) (j : Input) (bytes after page out page' out' : List ℕ) (went : Bool) where
   pub pass_is : IsRefill r.progress.input bytes j after →
       ready.progress ≡ refilled_progress r.progress j → ready.table ≡ r.table →
@@ -53,28 +59,25 @@ module _ (r ready x y : Running) (j : Input) (bytes after page out page' out' : 
         sent = subst (λ n. IsSent (take n out') went) (sym (ap (λ (p : Progress). p.written) flushed)) sent;
       }
 
-  pub pass_rests : Rests r.progress (length bytes) (length out) (length page) → r.progress.ended ≡ false →
-      length after ≡ length bytes → length out' ≡ length out → length page' ≡ length page →
+  pub pass_rests : {size room words : ℕ} → Rests r.progress size room words → r.progress.ended ≡ false → length after ≡ size →
       ready.progress ≡ refilled_progress r.progress j →
       CanLay x.progress (length after) (length out') (length page') →
       stand_of x page' after out' ≡ ran (stand_of ready page after out) →
       y.progress ≡ flushed_progress x.progress went →
-      Rests y.progress (length after) (length out') (length page')
-  pass_rests rests unended long-in long-out long-page filled is runs flushed =
+      Rests y.progress size room words
+  pass_rests {size} {room} {words} rests unended long-in filled is runs flushed =
       let i = x.progress.input in
       let open-still : (stand_of ready page after out).ended ≡ false = ap (λ (p : Progress). p.ended) filled ∙ unended in
       let long = left_long i after is.within in
       let same = ap (λ t. length t.input.left) runs in
       let short = ran_short (stand_of ready page after out) open-still in
-      let a = rests.size_of_input in
-      let b = rests.size_of_output in
-      subst (λ (p : Progress). Rests p (length after) (length out') (length page')) (sym flushed)
+      subst (λ (p : Progress). Rests p size room words) (sym flushed)
       (record {
-        within = is.within;
+        within = subst (Within i) long-in is.within;
         short = omega (arith, long, same, short);
-        size_of_input = omega (arith, a, long-in);
-        size_of_output = subst (λ n. longest * (1 + (n + 5) / 6) ≤ length out') (sym long-in) (omega (arith, b, long-out));
-        few = is.few;
+        size_of_input = rests.size_of_input;
+        size_of_output = rests.size_of_output;
+        few = rests.few;
       })
 
 -- ---- several
@@ -99,17 +102,15 @@ made_more made t u unended h p =
 
 -- ---- the beginning
 
-pub start_rests : (r : Running) (page bytes out : List ℕ) → r.progress ≡ blank_progress →
-    length bytes ≡ 6138 → length out ≡ 278528 → length page ≡ 16 →
-    Rests r.progress (length bytes) (length out) (length page)
-start_rests r page bytes out e long-in long-out long-page =
-    subst (λ (p : Progress). Rests p (length bytes) (length out) (length page)) (sym e)
+pub start_rests : (r : Running) → r.progress ≡ blank_progress → Rests r.progress 6138 278528 16
+start_rests r e =
+    subst (λ (p : Progress). Rests p 6138 278528 16) (sym e)
     (record {
       within = record { start = omega arith; stop = omega arith };
       short = omega arith;
-      size_of_input = omega (arith, long-in);
-      size_of_output = subst (λ n. longest * (1 + (n + 5) / 6) ≤ length out) (sym long-in) (omega (arith, long-out));
-      few = omega (arith, long-page);
+      size_of_input = omega arith;
+      size_of_output = omega arith;
+      few = omega arith;
     })
 
 pub start_is_blank : (r : Running) (bytes out : List ℕ) → r.progress ≡ blank_progress → r.table ≡ replicate 8 zero_process →
