@@ -3,12 +3,13 @@
 // message on standard error.
 #![tactic(auto)]
 
-ghost use Rattle.std.specs.Prelude.{◌≡◌, ◌≤◌, length};
+ghost use Rattle.std.specs.Prelude.{◌≡◌, ◌≤◌, is_ok, length};
 ghost use Rattle.texts.specs.Laying.{Laid};
 ghost use Rattle.streams.specs.Input.{incoming};
 ghost use Rattle.day_book.specs.Runs.{LinesFit, book_of, written_of, IsBookRun};
 
-use streams::input::Input;
+use streams::input::{Input, State};
+use streams::output::Unsent;
 use streams::{input, output};
 
 // The bytes of the longest day file, and one more: a file that fills the buffer is too long.
@@ -48,21 +49,24 @@ fn lay_input(
     ensures { Laid out.old 0
         (written_of (length places.old) (incoming input bytes.now)) out.new result }
 {
-    if input.failed {
-        return 0;
+    match input.state {
+        State::Ended => lay(rt, &bytes[..input.end], places, out),
+        State::Open => {
+            let _ = eprintln!(rt; "day_book: the day file has more than 2097152 bytes");
+            0
+        }
+        State::Broken => 0,
     }
-    if !input.last {
-        let _ = eprintln!(rt; "day_book: the day file has more than 2097152 bytes");
-        return 0;
-    }
-    let end = input.end;
-    lay(rt, &bytes[..end], places, out)
 }
 
 // Reads the whole input, and writes the text of its book.
-fn run(rt: &HostRuntime, bytes: &mut [u8], places: &mut [[u32; 11]], out: &mut [u8]) -> bool
-    requires { LinesFit (length places.old) (length out.old) }
-    ensures { IsBookRun (length places.old) bytes.new out.old out.new result }
+fn run(
+    rt: &HostRuntime,
+    bytes: &mut [u8; INPUT],
+    places: &mut [[u32; 11]; PLACES],
+    out: &mut [u8; OUTPUT],
+) -> Result<(), Unsent>
+    ensures { IsBookRun 21845 bytes.new out.old out.new (is_ok result) }
 {
     let input = input::whole(
         &mut rt.stdin(),
@@ -71,19 +75,7 @@ fn run(rt: &HostRuntime, bytes: &mut [u8], places: &mut [[u32; 11]], out: &mut [
         &mut rt.stderr(),
     );
     let n = lay_input(rt, input, bytes, places, out);
-    output::write_out(rt, out, n, b"day_book: cannot write standard output")
-}
-
-// The run on buffers of these sizes.
-fn start(
-    rt: &HostRuntime,
-    bytes: &mut [u8; INPUT],
-    places: &mut [[u32; 11]; PLACES],
-    out: &mut [u8; OUTPUT],
-) -> bool
-    ensures { IsBookRun 21845 bytes.new out.old out.new result }
-{
-    run(rt, bytes, places, out)
+    output::write_out(rt, &out[..n], b"day_book: cannot write standard output")
 }
 
 // The run, with room for the longest day file and the book of any.
@@ -91,5 +83,5 @@ fn main(rt: HostRuntime) {
     let mut bytes = [0u8; INPUT];
     let mut places = [[0u32; 11]; PLACES];
     let mut out = [0u8; OUTPUT];
-    start(&rt, &mut bytes, &mut places, &mut out);
+    let _ = run(&rt, &mut bytes, &mut places, &mut out);
 }

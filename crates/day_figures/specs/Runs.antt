@@ -1,17 +1,17 @@
 -- A run of the program: each of the named day files is tried, their page answers are gathered, and the line of their figures is laid and
 -- handed to the system. Which file a name opens, what a read gives and whether a write is taken is the system's.
-use Rattle.std.specs.Prelude.{ℕ, ◌≡◌, Bool, cond, List, [], map, length, take}
+use Rattle.std.specs.Prelude.{ℕ, ◌≡◌, Bool, cond, List, [], map, Option, Some, None, length, take}
 use Rattle.figures.specs.Figures.{answer_in, reckoned}
 use Rattle.figurelines.specs.FigureText.{reckoning_text}
 use Rattle.streams.specs.Input.{Incoming}
 use Rattle.streams.specs.System.{IsSent}
 use Rattle.texts.specs.Laying.{Laid}
-use Rattle.quarters.specs.declared.Quarter.{Quarter}
 use Rattle.quarters.specs.Days.{AllDays, all_whole, answers_of}
 
 -- the line of the first answers of the rows, or nothing
-abbrev pub line_of : (desks : ℕ) → (rows : List (List ℕ)) → Quarter → List ℕ
-line_of desks rows q = cond q.whole (reckoning_text desks (reckoned desks (map answer_in (take q.count rows)))) []
+abbrev pub line_of : (desks : ℕ) → (rows : List (List ℕ)) → Option ℕ → List ℕ
+line_of desks rows (Some count) = reckoning_text desks (reckoned desks (map answer_in (take count rows)))
+line_of desks rows None = []
 
 -- what is written: the line of their figures, or nothing where one did not come whole
 abbrev pub written_of : (desks : ℕ) → List Incoming → List ℕ

@@ -3,14 +3,13 @@
 // cannot be read, or is longer, it names it on standard error and prints nothing.
 #![tactic(auto)]
 
-ghost use Rattle.std.specs.Prelude.{◌≡◌, true, ◌-◌, ◌≤◌, ◌<◌, length};
+ghost use Rattle.std.specs.Prelude.{◌≡◌, ◌-◌, ◌≤◌, ◌<◌, IfSome, is_ok, length};
 ghost use Rattle.texts.specs.Laying.{Laid};
 ghost use Rattle.day_figures.specs.Runs.{line_of, IsFiguresRun};
 
-use quarters::Quarter;
 use std::env::{Env, FillError};
 use streams::output;
-use words::Word;
+use streams::output::Unsent;
 
 mod messages;
 mod words;
@@ -30,38 +29,20 @@ const WORD: usize = 131072;
 // A label, with a name of 4,096 bytes, which no file has.
 const LABEL: usize = 4121;
 
-// Lays the line of the figures of what is gathered, if every file came whole.
-fn lay(desks: u32, q: Quarter, answers: &[[u32; 3]], out: &mut [u8]) -> usize
-    requires { (q.whole ≡ true → q.count ≤ length answers.now) × (272 ≤ length out.old) }
-    ensures { Laid out.old 0 (line_of desks answers.now q) out.new result }
+// Lays the line of the figures of the answers that are gathered, if every file came whole.
+fn lay(desks: u32, gathered: Option<usize>, answers: &[[u32; 3]], out: &mut [u8]) -> usize
+    requires { IfSome gathered (λ count. count ≤ length answers.now) × (272 ≤ length out.old) }
+    ensures { Laid out.old 0 (line_of desks answers.now gathered) out.new result }
 {
-    if !q.whole {
-        return 0;
+    match gathered {
+        Some(count) => figurelines::lay(desks, figures::reckon(desks, &answers[..count]), out),
+        None => 0,
     }
-    let count = q.count;
-    figurelines::lay(desks, figures::reckon(desks, &answers[..count]), out)
 }
 
-// Reads the files that the arguments from the third to the last of n name, and writes the line of their figures.
+// Reads the files that the arguments from the third to the last of n name, and writes the line of their figures. A label begins the same
+// for each file.
 fn run(
-    rt: &HostRuntime,
-    desks: u32,
-    n: usize,
-    label: &mut [u8],
-    bytes: &mut [u8],
-    answers: &mut [[u32; 3]],
-    out: &mut [u8],
-) -> bool
-    requires { (2 ≤ n) × (25 ≤ length label.old) × (65535 < length answers.old) × (272 ≤ length out.old) }
-    ensures { IsFiguresRun desks (n - 2) (length bytes.old) out.old out.new result }
-{
-    let q = quarters::read_days(rt, n, label, bytes, answers, &mut rt.stderr());
-    let end = lay(desks, q, answers, out);
-    output::write_out(rt, out, end, b"day_figures: cannot write standard output")
-}
-
-// The run on buffers of these sizes. A label begins the same for each file.
-fn lent(
     rt: &HostRuntime,
     desks: u32,
     n: usize,
@@ -69,12 +50,14 @@ fn lent(
     bytes: &mut [u8; INPUT],
     answers: &mut [[u32; 3]; ANSWERS],
     out: &mut [u8; OUTPUT],
-) -> bool
+) -> Result<(), Unsent>
     requires { 2 ≤ n }
-    ensures { IsFiguresRun desks (n - 2) 2097153 out.old out.new result }
+    ensures { IsFiguresRun desks (n - 2) 2097153 out.old out.new (is_ok result) }
 {
     label[..25].copy_from_slice(b"day_figures: cannot read ");
-    run(rt, desks, n, label, bytes, answers, out)
+    let gathered = quarters::read_days(rt, n, label, bytes, answers, &mut rt.stderr());
+    let end = lay(desks, gathered, answers, out);
+    output::write_out(rt, &out[..end], b"day_figures: cannot write standard output")
 }
 
 // The run, with room for the longest day file, for more answers than figures are made of, and for the line.
@@ -85,7 +68,7 @@ fn start(rt: &HostRuntime, desks: u32, n: usize)
     let mut bytes = [0u8; INPUT];
     let mut answers = [[0u32; 3]; ANSWERS];
     let mut out = [0u8; OUTPUT];
-    lent(rt, desks, n, &mut label, &mut bytes, &mut answers, &mut out);
+    let _ = run(rt, desks, n, &mut label, &mut bytes, &mut answers, &mut out);
 }
 
 // Reads the desk count, which is the first of n arguments, and starts the run with it.
@@ -94,8 +77,8 @@ fn begin(rt: &HostRuntime, n: usize, word: &mut [u8])
 {
     match rt.arg(1, word) {
         Ok(k) => match words::read(&word[..k]) {
-            Word::Number(desks) => start(rt, desks, n),
-            Word::Other => messages::no_number(rt, &word[..k]),
+            Some(desks) => start(rt, desks, n),
+            None => messages::no_number(rt, &word[..k]),
         },
         Err(_) => messages::long_number(rt),
     }

@@ -1,4 +1,4 @@
--- A pass of the program: there is room for what its parts come to (`room-enough`), and these are handed to the system (`passed`). What is
+-- A pass of the program: there is room for what its parts come to (`room_enough`), and these are handed to the system (`passed`). What is
 -- handed to it by passes one after the other are the parts of the file (`Ahead`).
 use Prim.Native.Nat.{ℕ, ◌*◌, ◌≤◌, ◌<◌}
 use native.Mathlib.Decide.{dec_lt}
@@ -20,7 +20,7 @@ use Rattle.mender.proofs.Rooms.{pass_short, front_stored}
 use Rattle.mendlines.specs.DropText.{longest_drop, drop_text, rows_text, drops_text}
 use Rattle.streams.specs.System.{IsSent}
 use Rattle.day_mend.specs.declared.Stand.{Stand}
-use Rattle.day_mend.specs.Runs.{Rooms, Tells, IsWritten, Writes, over, stops, goes_on, parts_from, IsPassed}
+use Rattle.day_mend.specs.Runs.{Tells, IsWritten, Writes, over, stops, goes_on, parts_from, IsPassed}
 
 -- the first places of an output that was stored from its first place on
 stored_front : {A : Type 0} (xs output after : List A) (n : ℕ) → after ≡ sets output 0 xs → n ≡ length xs → length xs ≤ length output →
@@ -34,10 +34,10 @@ rows_text_lem [] = refl
 rows_text_lem (d ∷ ds) = ap (λ t. drop_text d ++ t) (rows_text_lem ds)
 
 module _ (file : List ℕ) (s : Stand) (t : List (List ℕ)) (page room : List ℕ) (rows : List (List ℕ)) (p : Progress)
-    (t' : List (List ℕ)) (page' room' : List ℕ) (rows' : List (List ℕ)) (lines : ℕ) (more : s.at < length file)
+    (t' : List (List ℕ)) (page' room' : List ℕ) (rows' : List (List ℕ)) (more : s.at < length file)
     (is : IsPassUpTo file 1024 (stage (record { day = s.day; at = s.at; kept = 0; drops = 0 }) t page room rows)
     (stage p t' page' room' rows'))
-    (rooms : Rooms (length room) (length rows) lines) where
+    (wide : length room ≡ 10240) (many : length rows ≡ 1024) where
   abbrev done : List Part
   done = is.pass.done
 
@@ -52,21 +52,17 @@ module _ (file : List ℕ) (s : Stand) (t : List (List ℕ)) (page room : List �
       let count = is.pass.counted in let most = is.few in
       (omega arith, omega arith, omega arith, omega arith)
 
-  pub room_enough : (p.kept ≤ length room') × (p.drops ≤ length rows') × (longest_drop * p.drops ≤ lines)
-  room_enough =
-      let f = few in let a = rooms.bytes in let b = rooms.drops in let c = rooms.text in
-      let wide = ap length is.pass.room ∙ length-sets room 0 (kept_of done) in
-      let many = ap length is.pass.rows ∙ length-sets rows 0 (map row_of drops) in
-      (omega arith, omega arith, omega arith)
+  pub room_enough : (p.kept ≤ 10240) × (p.drops ≤ 1024)
+  room_enough = let f = few in (omega arith, omega arith)
 
   kept_front : take p.kept room' ≡ kept_of done
   kept_front =
-      let f = few in let a = rooms.bytes in
+      let f = few in
       stored_front (kept_of done) room room' p.kept is.pass.room f.0 (omega arith)
 
   lines_front : rows_text (take p.drops rows') ≡ drops_text drops
   lines_front =
-      let f = few in let b = rooms.drops in
+      let f = few in
       let long = length-map drops row_of in
       ap rows_text (stored_front (map row_of drops) rows rows' p.drops is.pass.rows (f.1 ∙ sym long) (omega arith))
       ∙ rows_text_lem drops
@@ -75,8 +71,8 @@ module _ (file : List ℕ) (s : Stand) (t : List (List ℕ)) (page room : List �
   further =
       by_cases (dec_lt p.at (length file)) (λ l. let all = is.all l in let on = is.pass.onward in omega arith) (λ l. omega arith)
 
-  pub passed : (went told : Bool) → IsWritten (take p.kept room') (rows_text (take p.drops rows')) s.told went told →
-      IsPassed file s t page (record { day = p.day; at = p.at; went = went; told = told }) t' page'
+  pub passed : (went told : Bool) → IsWritten (take p.kept room') (rows_text (take p.drops rows')) s.wrote.told went told →
+      IsPassed file s t page (record { day = p.day; at = p.at; wrote = record { went = went; told = told } }) t' page'
   passed went told written =
       record {
         done = done;
@@ -84,8 +80,8 @@ module _ (file : List ℕ) (s : Stand) (t : List (List ℕ)) (page room : List �
         moved = is.pass.moved;
         further = further;
         within = is.pass.within;
-        written = subst (λ ls. IsWritten (kept_of done) ls s.told went told) lines_front
-            (subst (λ ks. IsWritten ks (rows_text (take p.drops rows')) s.told went told) kept_front written);
+        written = subst (λ ls. IsWritten (kept_of done) ls s.wrote.told went told) lines_front
+            (subst (λ ks. IsWritten ks (rows_text (take p.drops rows')) s.wrote.told went told) kept_front written);
         long = is.pass.long;
       }
 
@@ -97,44 +93,38 @@ Ahead all at left true telling = (went told : Bool) → Writes at telling left w
 Ahead all at left false telling = Writes 0 true all false telling
 
 module _ (file : List ℕ) (all : List Part) (s : Stand) (t : List (List ℕ)) (page : List ℕ)
-    (ahead : Ahead all s.at (parts_from file s t page) s.went s.told) where
+    (ahead : Ahead all s.at (parts_from file s t page) s.wrote.went s.wrote.told) where
   -- where standard output did not take all
-  pub all_stopped : s.went ≡ false → Writes 0 true all s.went s.told
+  pub all_stopped : s.wrote.went ≡ false → Writes 0 true all s.wrote.went s.wrote.told
   all_stopped q =
-      subst (λ b. Writes 0 true all b s.told) (sym q) (subst (λ b. Ahead all s.at (parts_from file s t page) b s.told) q ahead)
+      subst (λ b. Writes 0 true all b s.wrote.told) (sym q) (subst (λ b. Ahead all s.at (parts_from file s t page) b s.wrote.told) q ahead)
 
-  module _ (going : s.went ≡ true) where
-    on : Ahead all s.at (parts_from file s t page) true s.told
-    on = subst (λ b. Ahead all s.at (parts_from file s t page) b s.told) going ahead
+  module _ (going : s.wrote.went ≡ true) where
+    on : Ahead all s.at (parts_from file s t page) true s.wrote.told
+    on = subst (λ b. Ahead all s.at (parts_from file s t page) b s.wrote.told) going ahead
 
     pub goes_ahead : (p : Stand) (t' : List (List ℕ)) (page' : List ℕ) → IsPassed file s t page p t' page' →
-        Ahead all p.at (parts_from file p t' page') p.went p.told
-    goes_ahead p t' page' is = go p.went is.written
+        Ahead all p.at (parts_from file p t' page') p.wrote.went p.wrote.told
+    goes_ahead p t' page' is = go p.wrote.went is.written
       where
-        go : (b : Bool) → IsWritten (kept_of is.done) (drops_text (drops_of s.at is.done)) s.told b p.told →
-            Ahead all p.at (parts_from file p t' page') b p.told
+        go : (b : Bool) → IsWritten (kept_of is.done) (drops_text (drops_of s.at is.done)) s.wrote.told b p.wrote.told →
+            Ahead all p.at (parts_from file p t' page') b p.wrote.told
         go true w =
             λ went told later.
-            on went told (subst (λ ps. Writes s.at s.told ps went told) (sym is.parts)
-            (goes_on is.done w.0 w.1 (subst (λ a. Writes a p.told (parts_from file p t' page') went told) is.moved later)))
+            on went told (subst (λ ps. Writes s.at s.wrote.told ps went told) (sym is.parts)
+            (goes_on is.done w.0 w.1 (subst (λ a. Writes a p.wrote.told (parts_from file p t' page') went told) is.moved later)))
         go false w =
-            subst (Writes 0 true all false) (sym w.1) (on false s.told
-            (subst (λ ps. Writes s.at s.told ps false s.told) (sym is.parts)
+            subst (Writes 0 true all false) (sym w.1) (on false s.wrote.told
+            (subst (λ ps. Writes s.at s.wrote.told ps false s.wrote.told) (sym is.parts)
             (stops is.done (parts_from file p t' page') w.0)))
 
     -- at the end of the file
-    pub all_passed : length file ≤ s.at → Writes 0 true all s.went s.told
+    pub all_passed : length file ≤ s.at → Writes 0 true all s.wrote.went s.wrote.told
     unfolding pieces pieces_up_to
     all_passed end =
         let none = ap (λ bs. judged (box_in s.day t page) (pieces bs)) (drop_of_length-le file {i = s.at} end) in
-        subst (λ b. Writes 0 true all b s.told) (sym going)
-        (on true s.told (subst (λ ps. Writes s.at s.told ps true s.told) (sym none) over))
-
--- rooms of the same lengths
-pub same_rooms : {a b c : ℕ} → Rooms a b c → (a' b' c' : ℕ) → a' ≡ a → b' ≡ b → c' ≡ c → Rooms a' b' c'
-same_rooms rooms a' b' c' p q r =
-    let x = rooms.bytes in let y = rooms.drops in let z = rooms.text in
-    record { bytes = omega arith; drops = omega arith; text = omega arith }
+        subst (λ b. Writes 0 true all b s.wrote.told) (sym going)
+        (on true s.wrote.told (subst (λ ps. Writes s.at s.wrote.told ps true s.wrote.told) (sym none) over))
 
 -- ---- lines
 

@@ -12,12 +12,6 @@ use Rattle.streams.specs.System.{IsSent}
 use Rattle.streams.specs.Input.{Incoming, incoming, IsWhole}
 use Rattle.day_mend.specs.declared.Stand.{Stand}
 
--- there is room for what 1,024 parts come to: the longest record has ten bytes
-pub record Rooms (room rows lines : ℕ) : Type 0 where
-  pub bytes : 10 * 1024 ≤ room
-  pub drops : 1024 ≤ rows
-  pub text : longest_drop * 1024 ≤ lines
-
 -- lines were handed to standard error, if those before them were taken; else none are told any more
 abbrev pub Tells : (telling : Bool) → (lines : List ℕ) → (told : Bool) → Type 0
 Tells true lines told = IsSent lines told
@@ -49,7 +43,7 @@ pub record IsPassed (file : List ℕ) (s : Stand) (t : List (List ℕ)) (page : 
   pub moved : p.at ≡ s.at + bytes_in done
   pub further : s.at < p.at
   pub within : p.at ≤ length file
-  pub written : IsWritten (kept_of done) (drops_text (drops_of s.at done)) s.told p.went p.told
+  pub written : IsWritten (kept_of done) (drops_text (drops_of s.at done)) s.wrote.told p.wrote.went p.wrote.told
   pub long : LongRows t'
 
 -- what is handed to standard output, and to standard error, one after the other

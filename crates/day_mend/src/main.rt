@@ -12,11 +12,11 @@ ghost use Rattle.mending.specs.Mending.{judged, parts_of};
 ghost use Rattle.mending.specs.Judging.{HasNext};
 ghost use Rattle.mendlines.specs.DropText.{longest_drop, rows_text};
 ghost use Rattle.streams.specs.Input.{incoming};
-ghost use Rattle.day_mend.specs.Runs.{Rooms, Tells, IsWritten, Writes, IsPassed, parts_written, IsMendRun};
+ghost use Rattle.day_mend.specs.Runs.{Tells, IsWritten, Writes, IsPassed, parts_written, IsMendRun};
 
 use mender::Progress;
 use snapshot::Day;
-use streams::input::Input;
+use streams::input::{Input, State};
 use streams::{input, output};
 
 // The bytes of the longest day file, and one more: a file that fills the buffer is too long.
@@ -31,21 +31,35 @@ const ROOM: usize = 10240;
 // Room for as many lines, 82 bytes each.
 const LINES: usize = 83968;
 
-// Whether standard output took all that was written, and whether every drop could be told.
+// Room for what so many pieces come to: the bytes that are kept, the rows of the drops, and the lines of these.
+#[derive(Drop)]
+struct Buffers {
+    kept: [u8; ROOM],
+    rows: [[u64; 3]; PIECES],
+    lines: [u8; LINES],
+}
+
+// Whether standard output took all that was written, and whether every drop could be told. Two flags, since neither says the other, and
+// one theorem speaks of each (`day_mend_written` and `day_mend_told`, proofs/Written).
 #[derive(Clone, Copy)]
 struct Writing {
     went: bool,
     told: bool,
 }
 
-// How far a file has come: the day, the place of the next byte, and how the writes went.
+// How far a file has come: the day, the place of the next byte, and how the writes went, as in Writing.
 #[derive(Clone, Copy)]
 struct Stand {
     day: Day,
     at: usize,
-    went: bool,
-    told: bool,
+    wrote: Writing,
 }
+
+// Nothing was to be written yet, so that all was taken.
+const ALL: Writing = Writing {
+    went: true,
+    told: true,
+};
 
 // Tells the drops of the first `count` rows. Once one could not be told no more are, so that what is told is a beginning of the list.
 fn tell(rt: &HostRuntime, telling: bool, rows: &[[u64; 3]], count: usize, lines: &mut [u8]) -> bool
@@ -56,13 +70,13 @@ fn tell(rt: &HostRuntime, telling: bool, rows: &[[u64; 3]], count: usize, lines:
         return false;
     }
     let n = mendlines::lay_rows(&rows[..count], lines);
-    output::write_to(
+    let sent = output::write_to(
         &mut rt.stderr(),
-        lines,
-        n,
+        &lines[..n],
         b"day_mend: cannot write standard error",
         &mut rt.stderr(),
-    )
+    );
+    sent.is_ok()
 }
 
 // Writes what is kept, and tells what is dropped. A drop that cannot be told does not hold up the file.
@@ -70,21 +84,22 @@ fn write_pass(
     rt: &HostRuntime,
     s: Progress,
     telling: bool,
-    room: &[u8],
-    rows: &[[u64; 3]],
-    lines: &mut [u8],
+    buffers: &mut Buffers,
 ) -> Writing
-    requires { (s.kept ≤ length room.now) × (s.drops ≤ length rows.now) × (longest_drop * s.drops ≤ length lines.old) }
-    ensures { IsWritten (take s.kept room.now) (rows_text (take s.drops rows.now)) telling result.went result.told }
+    requires { (s.kept ≤ 10240) × (s.drops ≤ 1024) }
+    ensures { IsWritten (take s.kept buffers.old.kept) (rows_text (take s.drops buffers.old.rows)) telling result.went result.told }
 {
-    if !output::write_out(rt, room, s.kept, b"day_mend: cannot write standard output") {
-        return Writing {
+    let kept = &buffers.kept[..s.kept];
+    match output::write_out(rt, kept, b"day_mend: cannot write standard output") {
+        Ok(()) => Writing {
+            went: true,
+            told: tell(rt, telling, &buffers.rows, s.drops, &mut buffers.lines),
+        },
+        Err(_) => Writing {
             went: false,
             told: telling,
-        };
+        },
     }
-    let told = tell(rt, telling, rows, s.drops, lines);
-    Writing { went: true, told }
 }
 
 // Mends the next pieces of a file, and writes what they come to.
@@ -94,28 +109,23 @@ fn pass_on(
     bytes: &[u8],
     t: &mut [[u32; 369]],
     page: &mut [u32],
-    room: &mut [u8],
-    rows: &mut [[u64; 3]],
-    lines: &mut [u8],
+    buffers: &mut Buffers,
 ) -> Stand
-    requires { HasNext s.at bytes.now t.old × Rooms (length room.old) (length rows.old) (length lines.old) }
+    requires { HasNext s.at bytes.now t.old }
     ensures { IsPassed bytes.now s t.old page.old result t.new page.new }
 {
-    let day = s.day;
     let from = Progress {
-        day,
+        day: s.day,
         at: s.at,
         kept: 0,
         drops: 0,
     };
-    let p = mender::pass(from, PIECES, bytes, t, page, room, rows);
-    let w = write_pass(rt, p, s.told, room, rows, lines);
-    let after = p.day;
+    let p = mender::pass(from, PIECES, bytes, t, page, &mut buffers.kept, &mut buffers.rows);
+    let wrote = write_pass(rt, p, s.wrote.told, buffers);
     Stand {
-        day: after,
+        day: p.day,
         at: p.at,
-        went: w.went,
-        told: w.told,
+        wrote,
     }
 }
 
@@ -125,87 +135,49 @@ fn passes(
     bytes: &[u8],
     t: &mut [[u32; 369]],
     page: &mut [u32],
-    room: &mut [u8],
-    rows: &mut [[u64; 3]],
-    lines: &mut [u8],
+    buffers: &mut Buffers,
 ) -> Writing
-    requires { (length t.old ≡ 8) × LongRows t.old × Rooms (length room.old) (length rows.old) (length lines.old) }
+    requires { (length t.old ≡ 8) × LongRows t.old }
     ensures { Writes 0 true (judged (box_in blank_day t.old page.old) (pieces bytes.now))
         result.went result.told }
 {
     let mut s = Stand {
         day: snapshot::blank(),
         at: 0,
-        went: true,
-        told: true,
+        wrote: ALL,
     };
-    while s.went && s.at < bytes.len() {
-        s = pass_on(rt, s, bytes, t, page, room, rows, lines);
+    while s.wrote.went && s.at < bytes.len() {
+        s = pass_on(rt, s, bytes, t, page, buffers);
     }
-    Writing {
-        went: s.went,
-        told: s.told,
-    }
+    s.wrote
 }
 
 // Mends a file from a blank day on.
-fn mend(
-    rt: &HostRuntime,
-    bytes: &[u8],
-    room: &mut [u8],
-    rows: &mut [[u64; 3]],
-    lines: &mut [u8],
-) -> Writing
-    requires { Rooms (length room.old) (length rows.old) (length lines.old) }
+fn mend(rt: &HostRuntime, bytes: &[u8], buffers: &mut Buffers) -> Writing
     ensures { Writes 0 true (parts_of bytes.now) result.went result.told }
 {
     let mut t = [[0u32; 369]; 8];
     let mut page = [0u32; 16];
-    passes(rt, bytes, &mut t, &mut page, room, rows, lines)
-}
-
-// Nothing was to be written.
-fn nothing() -> Writing
-    ensures { (result.went ≡ true) × (result.told ≡ true) }
-{
-    Writing {
-        went: true,
-        told: true,
-    }
+    passes(rt, bytes, &mut t, &mut page, buffers)
 }
 
 // Mends an input that came whole; a read that failed was told where it failed.
-fn mend_input(
-    rt: &HostRuntime,
-    input: Input,
-    bytes: &[u8],
-    room: &mut [u8],
-    rows: &mut [[u64; 3]],
-    lines: &mut [u8],
-) -> Writing
-    requires { (input.at ≡ 0) × (input.end ≤ length bytes.now) × Rooms (length room.old) (length rows.old) (length lines.old) }
+fn mend_input(rt: &HostRuntime, input: Input, bytes: &[u8], buffers: &mut Buffers) -> Writing
+    requires { (input.at ≡ 0) × (input.end ≤ length bytes.now) }
     ensures { Writes 0 true (parts_written (incoming input bytes.now)) result.went result.told }
 {
-    if input.failed {
-        return nothing();
+    match input.state {
+        State::Ended => mend(rt, &bytes[..input.end], buffers),
+        State::Open => {
+            let _ = eprintln!(rt; "day_mend: the day file has more than 6291456 bytes");
+            ALL
+        }
+        State::Broken => ALL,
     }
-    if !input.last {
-        let _ = eprintln!(rt; "day_mend: the day file has more than 6291456 bytes");
-        return nothing();
-    }
-    let end = input.end;
-    mend(rt, &bytes[..end], room, rows, lines)
 }
 
 // Reads the whole input, and mends it.
-fn run(
-    rt: &HostRuntime,
-    bytes: &mut [u8],
-    room: &mut [u8],
-    rows: &mut [[u64; 3]],
-    lines: &mut [u8],
-) -> Writing
-    requires { Rooms (length room.old) (length rows.old) (length lines.old) }
+fn run(rt: &HostRuntime, bytes: &mut [u8; INPUT], buffers: &mut Buffers) -> Writing
     ensures { IsMendRun bytes.new result.went result.told }
 {
     let input = input::whole(
@@ -214,27 +186,16 @@ fn run(
         b"day_mend: cannot read standard input",
         &mut rt.stderr(),
     );
-    mend_input(rt, input, bytes, room, rows, lines)
-}
-
-// The run on buffers of these sizes.
-fn start(
-    rt: &HostRuntime,
-    bytes: &mut [u8; INPUT],
-    room: &mut [u8; ROOM],
-    rows: &mut [[u64; 3]; PIECES],
-    lines: &mut [u8; LINES],
-) -> Writing
-    ensures { IsMendRun bytes.new result.went result.told }
-{
-    run(rt, bytes, room, rows, lines)
+    mend_input(rt, input, bytes, buffers)
 }
 
 // The run, with room for the longest day file.
 fn main(rt: HostRuntime) {
     let mut bytes = [0u8; INPUT];
-    let mut room = [0u8; ROOM];
-    let mut rows = [[0u64; 3]; PIECES];
-    let mut lines = [0u8; LINES];
-    start(&rt, &mut bytes, &mut room, &mut rows, &mut lines);
+    let mut buffers = Buffers {
+        kept: [0; ROOM],
+        rows: [[0; 3]; PIECES],
+        lines: [0; LINES],
+    };
+    run(&rt, &mut bytes, &mut buffers);
 }

@@ -1,5 +1,5 @@
 -- One pass, from what the functions that it calls ensure.
-use Prim.Native.Nat.{ℕ, ◌+◌, ◌-◌, ◌*◌, ◌/◌, ◌≤◌, ◌<◌}
+use Prim.Native.Nat.{ℕ, ◌+◌, ◌-◌, ◌*◌, ◌/◌, ◌≤◌}
 use native.Mathlib.Omega.{arith}
 use mathlib.Core.Path.{◌≡◌, sym, ap, ap₂, subst, ◌∙◌}
 use mathlib.Core.Bool.{Bool, true, false, cond}
@@ -32,6 +32,12 @@ module _ (p : Progress) (size room words : ℕ) (rests : Rests p size room words
       let r = rests.size_of_output in
       record { within = within; room_left = omega (arith, l, r); few = rests.few })
 
+-- and in buffers of these lengths
+pub lay_in : {p : Progress} {size room words : ℕ} → CanLay p size room words → (a b c : ℕ) → a ≡ size → b ≡ room → c ≡ words →
+    CanLay p a b c
+lay_in {p} {size} {room} ready a b c q r s =
+    subst (λ n. CanLay p n b c) (sym q) (subst (λ n. CanLay p size n c) (sym r) (subst (CanLay p size room) (sym s) ready))
+
 module _ (r ready x y : Running) (j : Input) (bytes after page out page' out' : List ℕ) (went : Bool) where
   pub pass_is : IsRefill r.progress.input bytes j after →
       ready.progress ≡ refilled_progress r.progress j → ready.table ≡ r.table →
@@ -53,28 +59,25 @@ module _ (r ready x y : Running) (j : Input) (bytes after page out page' out' : 
         sent = subst (λ n. IsSent (take n out') went) (sym (ap (λ (p : Progress). p.written) flushed)) sent;
       }
 
-  pub pass_rests : Rests r.progress (length bytes) (length out) (length page) → r.progress.ended ≡ false →
-      length after ≡ length bytes → length out' ≡ length out → length page' ≡ length page →
+  pub pass_rests : {size room words : ℕ} → Rests r.progress size room words → r.progress.ended ≡ false → length after ≡ size →
       ready.progress ≡ refilled_progress r.progress j →
       CanLay x.progress (length after) (length out') (length page') →
       stand_of x page' after out' ≡ ran (stand_of ready page after out) →
       y.progress ≡ flushed_progress x.progress went →
-      Rests y.progress (length after) (length out') (length page')
-  pass_rests rests unended long-in long-out long-page filled is runs flushed =
+      Rests y.progress size room words
+  pass_rests {size} {room} {words} rests unended long-in filled is runs flushed =
       let i = x.progress.input in
       let open-still : (stand_of ready page after out).ended ≡ false = ap (λ (p : Progress). p.ended) filled ∙ unended in
       let long = left_long i after is.within in
       let same = ap (λ t. length t.input.left) runs in
       let short = ran_short (stand_of ready page after out) open-still in
-      let a = rests.size_of_input in
-      let b = rests.size_of_output in
-      subst (λ (p : Progress). Rests p (length after) (length out') (length page')) (sym flushed)
+      subst (λ (p : Progress). Rests p size room words) (sym flushed)
       (record {
-        within = is.within;
+        within = subst (Within i) long-in is.within;
         short = omega (arith, long, same, short);
-        size_of_input = omega (arith, a, long-in);
-        size_of_output = subst (λ n. longest * (1 + (n + 5) / 6) ≤ length out') (sym long-in) (omega (arith, b, long-out));
-        few = is.few;
+        size_of_input = rests.size_of_input;
+        size_of_output = rests.size_of_output;
+        few = rests.few;
       })
 
 -- ---- several
@@ -87,29 +90,27 @@ passes_more [] s t u e unended p =
     (unended, (subst (λ (z : Stand). IsSent z.lines p.did.went) p.stands p.sent, sym p.stands))
 passes_more (q ∷ ps) s t u h unended p = (h.0, (h.1.0, passes_more ps _ t u h.1.1 unended p))
 
--- the passes of a run so far, of which `left` more can be made
-abbrev pub Made : (most left : ℕ) → Stand → Type 0
-Made most left t = (ps : List Did) × ((length ps + left ≡ most) × LeadsTo blank_stand ps t)
+-- the passes of a run so far, which are so many
+abbrev pub Made : ℕ → Stand → Type 0
+Made made t = (ps : List Did) × ((length ps ≡ made) × LeadsTo blank_stand ps t)
 
-pub made_more : (most left : ℕ) (t u : Stand) → 0 < left → t.ended ≡ false → Made most left t → IsPass t u → Made most (left - 1) u
-made_more most left t u some unended h p =
+pub made_more : (made : ℕ) (t u : Stand) → t.ended ≡ false → Made made t → IsPass t u → Made (made + 1) u
+made_more made t u unended h p =
     let long = length-append h.0 (p.did ∷ []) in
     let n = h.1.0 in
-    (h.0 ++ (p.did ∷ []), (omega (arith, long, n, some), passes_more h.0 blank_stand t u h.1.1 unended p))
+    (h.0 ++ (p.did ∷ []), (omega (arith, long, n), passes_more h.0 blank_stand t u h.1.1 unended p))
 
 -- ---- the beginning
 
-pub start_rests : (r : Running) (page bytes out : List ℕ) → r.progress ≡ blank_progress →
-    length bytes ≡ 6138 → length out ≡ 278528 → length page ≡ 16 →
-    Rests r.progress (length bytes) (length out) (length page)
-start_rests r page bytes out e long-in long-out long-page =
-    subst (λ (p : Progress). Rests p (length bytes) (length out) (length page)) (sym e)
+pub start_rests : (r : Running) → r.progress ≡ blank_progress → Rests r.progress 6138 278528 16
+start_rests r e =
+    subst (λ (p : Progress). Rests p 6138 278528 16) (sym e)
     (record {
       within = record { start = omega arith; stop = omega arith };
       short = omega arith;
-      size_of_input = omega (arith, long-in);
-      size_of_output = subst (λ n. longest * (1 + (n + 5) / 6) ≤ length out) (sym long-in) (omega (arith, long-out));
-      few = omega (arith, long-page);
+      size_of_input = omega arith;
+      size_of_output = omega arith;
+      few = omega arith;
     })
 
 pub start_is_blank : (r : Running) (bytes out : List ℕ) → r.progress ≡ blank_progress → r.table ≡ replicate 8 zero_process →

@@ -1,5 +1,5 @@
--- What a run writes: `printed` of its file, however the reads cut it (`day-printed`); where a read fails, the lines of the records
--- that came whole (`day-cut-off`); and at any time a beginning of it (`day-begun`).
+-- What a run writes: `printed` of its file, however the reads cut it (`day_printed`); where a read fails, the lines of the records
+-- that came whole (`day_cut_off`); and at any time a beginning of it (`day_begun`).
 use Prim.Native.Nat.{ℕ, suc, ◌+◌, ◌≤◌, ◌<◌}
 use native.Mathlib.Omega.{arith}
 use native.Mathlib.Nat.{le_refl}

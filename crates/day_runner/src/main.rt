@@ -2,7 +2,7 @@
 // `end` and the event number. A read or a write that fails ends the run with a message on standard error.
 #![tactic(auto)]
 
-ghost use Rattle.std.specs.Prelude.{◌≡◌, false, length};
+ghost use Rattle.std.specs.Prelude.{◌≡◌, false};
 ghost use Rattle.laps.specs.Laps.{blank_stand};
 ghost use Rattle.laps.specs.Progress.{Rests, stand_of};
 ghost use Rattle.day_runner.specs.Passes.{IsPass, IsRun};
@@ -17,65 +17,58 @@ const INPUT: usize = 6138;
 // Room for those 1,024 lines, whatever they are: 272 bytes for each, daytext's LONGEST.
 const OUTPUT: usize = 278528;
 
+// What a run reads into, lays its lines in and lists a page's writings in.
+#[derive(Drop)]
+struct Buffers {
+    bytes: [u8; INPUT],
+    out: [u8; OUTPUT],
+    page: [u32; 16],
+}
+
 // A pass: one read fills up the input, the records that lie whole in it are run, and their lines are written.
-fn pass(rt: &HostRuntime, r: Running, bytes: &mut [u8], out: &mut [u8], page: &mut [u32]) -> Running
-    requires { Rests r.progress (length bytes.old) (length out.old) (length page.old) × (r.progress.ended ≡ false) }
-    ensures rests { Rests result.progress (length bytes.new) (length out.new) (length page.new) }
+fn pass(rt: &HostRuntime, r: Running, b: &mut Buffers) -> Running
+    requires { Rests r.progress 6138 278528 16 × (r.progress.ended ≡ false) }
+    ensures rests { Rests result.progress 6138 278528 16 }
     ensures pass { IsPass
-        (stand_of r page.old bytes.old out.old)
-        (stand_of result page.new bytes.new out.new) }
+        (stand_of r b.old.page b.old.bytes b.old.out)
+        (stand_of result b.new.page b.new.bytes b.new.out) }
 {
-    let before = r.progress.input;
     let input = input::refill(
         &mut rt.stdin(),
-        bytes,
-        before,
+        &mut b.bytes,
+        r.progress.input,
         b"day_runner: cannot read standard input",
         &mut rt.stderr(),
     );
-    let ran = records::run(records::refilled(r, input), bytes, out, page);
-    let went = output::write_out(
-        rt,
-        out,
-        ran.progress.written,
-        b"day_runner: cannot write standard output",
-    );
-    records::flushed(ran, went)
+    let ready = records::refilled(r, input);
+    let ran = records::run(ready, &b.bytes, &mut b.out, &mut b.page);
+    let lines = &b.out[..ran.progress.written];
+    let sent = output::write_out(rt, lines, b"day_runner: cannot write standard output");
+    records::flushed(ran, sent.is_ok())
 }
 
 // Passes until all is done, at most that many: a proved loop has to end, and nothing says that the input does.
-fn passes(
-    rt: &HostRuntime,
-    r: Running,
-    most: u64,
-    bytes: &mut [u8],
-    out: &mut [u8],
-    page: &mut [u32],
-) -> Running
-    requires rests { Rests r.progress (length bytes.old) (length out.old) (length page.old) }
-    requires out_value { stand_of r page.old bytes.old out.old ≡ blank_stand }
-    ensures { IsRun most (stand_of result page.new bytes.new out.new) }
+fn passes(rt: &HostRuntime, r: Running, most: u64, b: &mut Buffers) -> Running
+    requires rests { Rests r.progress 6138 278528 16 }
+    requires out_value { stand_of r b.old.page b.old.bytes b.old.out ≡ blank_stand }
+    ensures { IsRun most (stand_of result b.new.page b.new.bytes b.new.out) }
 {
     let mut ran = r;
-    let mut left = most;
-    while left > 0 && !ran.progress.ended {
-        ran = pass(rt, ran, bytes, out, page);
-        left -= 1;
+    for _ in 0..most {
+        if ran.progress.ended {
+            break;
+        }
+        ran = pass(rt, ran, b);
     }
     ran
 }
 
-// The passes are counted down from a number that none uses up.
+// The passes are counted up to a number that they never reach.
 fn main(rt: HostRuntime) {
-    let mut bytes = [0u8; INPUT];
-    let mut out = [0u8; OUTPUT];
-    let mut page = [0u32; 16];
-    passes(
-        &rt,
-        records::start(),
-        u64::MAX,
-        &mut bytes,
-        &mut out,
-        &mut page,
-    );
+    let mut buffers = Buffers {
+        bytes: [0; INPUT],
+        out: [0; OUTPUT],
+        page: [0; 16],
+    };
+    passes(&rt, records::start(), u64::MAX, &mut buffers);
 }

@@ -1,5 +1,5 @@
--- What the laps on a run's bytes lay: the lines of the file that they begin (`expecting-prints`), or, where no more will come, of all
--- that is left (`lasting-prints`).
+-- What the laps on a run's bytes lay: the lines of the file that they begin (`expecting_prints`), or, where no more will come, of all
+-- that is left (`lasting_prints`).
 use Prim.Native.Nat.{ℕ, zero, suc, ◌≤◌, ◌<◌}
 use native.Mathlib.Omega.{arith}
 use native.Mathlib.Nat.{not-suc-le-zero}

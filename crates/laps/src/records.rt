@@ -13,13 +13,14 @@ use dayfile::Reading;
 use daytext::LONGEST;
 use memory::table;
 use snapshot::{Day, Outcome};
-use streams::input::Input;
+use streams::input::{Input, State};
 use unbounded::Process;
 
 // The longest record, in bytes.
 const WHOLE: usize = 10;
 
-// How far a run has come: the day, the input, how much of the output is laid, and whether all is done.
+// How far a run has come: the day, the input, how much of the output is laid, and whether all is done. The flag stays a flag: a run that
+// has ended keeps its other fields, whose lines are still to be written, so that an enum would name all of them twice.
 #[derive(Clone, Copy)]
 pub struct Progress {
     pub day: Day,
@@ -35,12 +36,6 @@ pub struct Running {
     pub table: [Process; 8],
 }
 
-fn with_table(progress: Progress, table: [Process; 8]) -> Running
-    ensures { (result.progress ≡ progress) × (result.table ≡ table) }
-{
-    Running { progress, table }
-}
-
 // The beginning: a blank day.
 pub fn start() -> Running
     ensures { (result.progress ≡ blank_progress) × (result.table ≡ replicate 8 zero_process) }
@@ -48,8 +43,7 @@ pub fn start() -> Running
     let input = Input {
         at: 0,
         end: 0,
-        last: false,
-        failed: false,
+        state: State::Open,
     };
     let progress = Progress {
         day: snapshot::blank(),
@@ -57,24 +51,22 @@ pub fn start() -> Running
         written: 0,
         ended: false,
     };
-    with_table(progress, table::blank())
+    Running {
+        progress,
+        table: table::blank(),
+    }
 }
 
 // A run whose input was filled up; nothing is laid yet of what it will print.
 pub fn refilled(r: Running, input: Input) -> Running
     ensures { (result.progress ≡ refilled_progress r.progress input) × (result.table ≡ r.table) }
 {
-    let before = r.progress;
-    let day = before.day;
     let progress = Progress {
-        day,
         input,
         written: 0,
-        ended: before.ended,
+        ..r.progress
     };
-    let mut x = r;
-    x.progress = progress;
-    x
+    Running { progress, ..r }
 }
 
 // After the output was written, or could not be.
@@ -82,18 +74,11 @@ pub fn flushed(r: Running, went: bool) -> Running
     ensures { (result.progress ≡ flushed_progress r.progress went) × (result.table ≡ r.table) }
 {
     let at = r.progress;
-    let day = at.day;
-    let input = at.input;
-    let ended = if went { at.ended } else { true };
     let progress = Progress {
-        day,
-        input,
-        written: at.written,
-        ended,
+        ended: at.ended || !went,
+        ..at
     };
-    let mut x = r;
-    x.progress = progress;
-    x
+    Running { progress, ..r }
 }
 
 // Whether there is another lap: the next record lies whole in the input, or no more will come. That the output has room for its line
@@ -101,23 +86,13 @@ pub fn flushed(r: Running, went: bool) -> Running
 fn can_go(at: Progress, room: usize) -> bool
     ensures { result ≡ can_go at room }
 {
-    let input = at.input;
-    if at.ended {
+    if at.ended || room.saturating_sub(at.written) < LONGEST {
         return false;
     }
-    if room < at.written {
-        return false;
+    match at.input.state {
+        State::Open => WHOLE <= at.input.end.saturating_sub(at.input.at),
+        State::Ended | State::Broken => true,
     }
-    if room - at.written < LONGEST {
-        return false;
-    }
-    if input.last {
-        return true;
-    }
-    if input.end < input.at {
-        return false;
-    }
-    WHOLE <= input.end - input.at
 }
 
 // The next record of the input, or how it ends.
@@ -125,9 +100,7 @@ fn next_of(at: Progress, bytes: &[u8]) -> Reading
     requires { Within at.input (length bytes.now) }
     ensures { (result ≡ next_in at.input bytes.now) × Takes result at.input }
 {
-    let input = at.input;
-    let start = input.at;
-    let end = input.end;
+    let Input { at: start, end, .. } = at.input;
     dayfile::read(&bytes[start..end])
 }
 
@@ -136,26 +109,26 @@ fn next_of(at: Progress, bytes: &[u8]) -> Reading
 fn closed(at: Progress, day: Day, written: usize, end: bool) -> Progress
     ensures { result ≡ closed_progress at day written end }
 {
-    let before = at.input;
-    let input = Input {
-        at: before.end,
-        end: before.end,
-        last: true,
-        failed: before.failed,
+    let none = Input {
+        at: at.input.end,
+        ..at.input
     };
-    if before.failed {
-        return Progress {
+    match at.input.state {
+        State::Broken => Progress {
             day,
-            input,
+            input: none,
             written: at.written,
             ended: true,
-        };
-    }
-    Progress {
-        day,
-        input,
-        written,
-        ended: end,
+        },
+        State::Open | State::Ended => Progress {
+            day,
+            input: Input {
+                state: State::Ended,
+                ..none
+            },
+            written,
+            ended: end,
+        },
     }
 }
 
@@ -169,19 +142,15 @@ fn past(at: Progress, x: Reading, o: Outcome, page: &[u32], out: &mut [u8]) -> P
         laid_text (line_of o x) (words_in o.day.count page.now) (lasts_in o.day.count page.now)
         out.old at.written }
 {
-    let input = at.input;
-    let day = o.day;
     let written = daylines::lay(x, o, page, out, at.written);
-    let Reading::Found { record: _, next } = x else {
-        return closed(at, day, written, daylines::is_end(x));
+    let Reading::Found { next, .. } = x else {
+        return closed(at, o.day, written, daylines::is_end(x));
     };
     Progress {
-        day,
+        day: o.day,
         input: Input {
-            at: input.at + next,
-            end: input.end,
-            last: input.last,
-            failed: input.failed,
+            at: at.input.at + next,
+            ..at.input
         },
         written,
         ended: false,
@@ -203,5 +172,5 @@ pub fn run(r: Running, bytes: &[u8], out: &mut [u8], page: &mut [u32]) -> Runnin
         let o = days::asked(progress.day, &mut table[..n], x, page);
         progress = past(progress, x, o, page, out);
     }
-    with_table(progress, table)
+    Running { progress, table }
 }

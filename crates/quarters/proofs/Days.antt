@@ -5,6 +5,8 @@ use mathlib.Core.Path.{◌≡◌, refl, sym, ap, ◌∙◌, subst}
 use mathlib.Core.Bool.{Bool, true, false, ◌&&◌, true≢false}
 use mathlib.Core.List.{List, [], ◌∷◌, ◌++◌, map, append_assoc, append-nil}
 use lib.ListN.{length, length-append}
+use Rattle.std.specs.Prelude.{Option, Some, None, is_some, IfSome}
+use Rattle.std.specs.Option.{unwrap_or, option_and}
 use Rattle.snapshot.proofs.Booleans.{and_both}
 use Rattle.days.specs.Happenings.{day_of}
 use Rattle.gathering.specs.Answers.{answers_in, quarter_of}
@@ -12,8 +14,7 @@ use Rattle.gathering.specs.Gathered.{sums_with_all}
 use Rattle.gathering.specs.Laps.{gathered}
 use Rattle.gathering.proofs.Passing.{with_both}
 use Rattle.streams.specs.declared.input.Input.{Input}
-use Rattle.streams.specs.Input.{Incoming, IsWhole}
-use Rattle.quarters.specs.declared.Quarter.{Quarter}
+use Rattle.streams.specs.Input.{Incoming, is_broken, IsWhole}
 use Rattle.quarters.specs.Days.{IsOpened, IsTried, AllDays, is_whole, all_whole, answers_of, IsAdded, IsDayAdded, AreRead}
 
 -- ---- one file
@@ -27,26 +28,38 @@ tried_within {i} {bytes} t = go t.opening t.opened
     go false none = (ap (λ j. j.at) none, subst (λ k. k ≤ length bytes) (sym (ap (λ j. j.end) none)) (omega arith))
 
 -- and where nothing failed it was read whole
-pub tried_whole : {i : Input} {bytes : List ℕ} → IsTried i bytes → i.failed ≡ false → IsWhole i bytes
+pub tried_whole : {i : Input} {bytes : List ℕ} → IsTried i bytes → is_broken i.state ≡ false → IsWhole i bytes
 tried_whole {i} {bytes} t good = go t.opening t.opened
   where
     go : (z : Bool) → IsOpened z i bytes → IsWhole i bytes
     go true whole = whole
-    go false none = absurd (true≢false (sym (ap (λ j. j.failed) none) ∙ good))
+    go false none = absurd (true≢false (sym (ap (λ j. is_broken j.state) none) ∙ good))
 
 -- ---- one day
 
-module _ (d : Incoming) (q : Quarter) (rows : List (List ℕ)) where
+module _ (d : Incoming) (q : Option ℕ) (rows : List (List ℕ)) where
   -- one that did not come whole
-  pub day_lost : is_whole d ≡ false → IsAdded d q rows (record { count = q.count; whole = false }) rows
-  day_lost lost =
-      record { whole = sym (ap (λ b. b && q.whole) lost); held = λ whole. absurd (true≢false (sym whole ∙ lost)) }
+  pub day_lost : is_whole d ≡ false → IsAdded d q rows None rows
+  day_lost lost = record { whole = sym (ap (λ b. b && is_some q) lost); held = go q }
+    where
+      go : (q : Option ℕ) → IfSome q (λ k. Unit {0})
+      go None = tt
+      go (Some k) = tt
 
   -- one that did
-  pub day_gathered : is_whole d ≡ true → (rows' : List (List ℕ)) (count : ℕ) →
-      gathered rows' count ≡ sums_with_all (gathered rows q.count) (answers_in (day_of d.left)) →
-      IsAdded d q rows (record { count = count; whole = q.whole }) rows'
-  day_gathered whole rows' count is = record { whole = sym (ap (λ b. b && q.whole) whole); held = λ w. is }
+  pub day_gathered : is_whole d ≡ true → (rows' : List (List ℕ)) (n : ℕ) →
+      gathered rows' n ≡ sums_with_all (gathered rows (unwrap_or q 0)) (answers_in (day_of d.left)) →
+      IsAdded d q rows (option_and q (Some n)) rows'
+  day_gathered whole rows' n is = record { whole = both q ∙ sym (ap (λ b. b && is_some q) whole); held = go q is }
+    where
+      both : (q : Option ℕ) → is_some (option_and q (Some n)) ≡ is_some q
+      both None = refl
+      both (Some k) = refl
+
+      go : (q : Option ℕ) → gathered rows' n ≡ sums_with_all (gathered rows (unwrap_or q 0)) (answers_in (day_of d.left)) →
+          IfSome q (λ k. IfSome (option_and q (Some n)) (λ n. gathered rows' n ≡ sums_with_all (gathered rows k) (answers_in (day_of d.left))))
+      go None is = tt
+      go (Some k) is = is
 
 -- ---- one day more
 
@@ -78,11 +91,11 @@ tried_more size [] d all more = more
 tried_more size (e ∷ ds) d all more = (all.0, tried_more size ds d all.1 more)
 
 -- no day
-pub none_read : (size : ℕ) (rows : List (List ℕ)) → AreRead 0 size rows rows (record { count = 0; whole = true })
+pub none_read : (size : ℕ) (rows : List (List ℕ)) → AreRead 0 size rows rows (Some 0)
 none_read size rows =
-    record { days = []; each = refl; tried = tt; quarter = record { whole = refl; held = λ w. refl } }
+    record { days = []; each = refl; tried = tt; quarter = record { whole = refl; held = refl } }
 
-pub one_more : (files size : ℕ) (before rows : List (List ℕ)) (q : Quarter) (rows' : List (List ℕ)) (q' : Quarter) →
+pub one_more : (files size : ℕ) (before rows : List (List ℕ)) (q : Option ℕ) (rows' : List (List ℕ)) (q' : Option ℕ) →
     AreRead files size before rows q → IsDayAdded size q rows q' rows' → AreRead (files + 1) size before rows' q'
 one_more files size before rows q rows' q' are more =
     record {
@@ -101,13 +114,20 @@ one_more files size before rows q rows' q' are more =
     ds' : List Incoming
     ds' = ds ++ (d ∷ [])
 
-    whole : q'.whole ≡ all_whole ds'
+    whole : is_some q' ≡ all_whole ds'
     whole = more.added.whole ∙ ap (λ b. is_whole d && b) are.quarter.whole ∙ sym (whole_more ds d)
 
-    held : all_whole ds' ≡ true → gathered rows' q'.count ≡ sums_with_all (gathered before 0) (answers_of ds')
-    held all =
-        let both = and_both (is_whole d) (all_whole ds) (sym (whole_more ds d) ∙ all) in
-        more.added.held both.0
-        ∙ ap (λ g. sums_with_all g (answers_in (day_of d.left))) (are.quarter.held both.1)
-        ∙ sym (with_both (gathered before 0) (answers_of ds) (answers_in (day_of d.left)))
-        ∙ ap (sums_with_all (gathered before 0)) (sym (answers_more ds d))
+    held : IfSome q' (λ n. gathered rows' n ≡ sums_with_all (gathered before 0) (answers_of ds'))
+    held = go q q' more.added.whole are.quarter.held more.added.held
+      where
+        go : (q q' : Option ℕ) → is_some q' ≡ is_whole d && is_some q →
+            IfSome q (λ k. gathered rows k ≡ sums_with_all (gathered before 0) (answers_of ds)) →
+            IfSome q (λ k. IfSome q' (λ n. gathered rows' n ≡ sums_with_all (gathered rows k) (answers_in (day_of d.left)))) →
+            IfSome q' (λ n. gathered rows' n ≡ sums_with_all (gathered before 0) (answers_of ds'))
+        go q None whole before_it it = tt
+        go None (Some n) whole before_it it = absurd (true≢false (sym (and_both (is_whole d) false (sym whole)).1))
+        go (Some k) (Some n) whole before_it it =
+            it
+            ∙ ap (λ g. sums_with_all g (answers_in (day_of d.left))) before_it
+            ∙ sym (with_both (gathered before 0) (answers_of ds) (answers_in (day_of d.left)))
+            ∙ ap (sums_with_all (gathered before 0)) (sym (answers_more ds d))

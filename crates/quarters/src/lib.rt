@@ -6,24 +6,18 @@ ghost use Rattle.std.specs.Prelude.{◌-◌, ◌≤◌, is_ok, length};
 ghost use Rattle.streams.specs.Input.{incoming};
 ghost use Rattle.quarters.specs.Days.{IsOpened, IsTried, IsAdded, IsDayAdded, AreRead};
 
+use messages::Label;
 use std::env::Env;
 use std::fs::Files;
 use std::io::{IsTerminal, Read, Write};
 use std::{fs, io, str};
-use streams::input::Input;
+use streams::input::{Input, State};
 use streams::{input, system};
 
 mod messages;
 
 // Linux's number of an error that text has no such bytes.
 const NO_TEXT: i32 = 84;
-
-// What is gathered of the files so far: how many answers, and whether each file came whole.
-#[derive(Clone, Copy)]
-pub struct Quarter {
-    pub count: usize,
-    pub whole: bool,
-}
 
 // Puts argument i behind the label, and answers where it ends. One that is too long leaves the label full, and no file has that name.
 fn name<R: Env>(rt: &R, i: usize, label: &mut [u8]) -> usize
@@ -39,21 +33,20 @@ fn name<R: Env>(rt: &R, i: usize, label: &mut [u8]) -> usize
 // Reads the file whole that an opening answered; where that was an error it could not be opened. What fails is told.
 fn read_file<F: Read + Drop, M: Write>(
     file: io::Result<F>,
-    label: &[u8],
+    label: Label,
     bytes: &mut [u8],
     messages: &mut M,
 ) -> Input
     ensures { IsOpened (is_ok file) result bytes.new }
 {
     match file {
-        Ok(mut opened) => input::whole(&mut opened, bytes, label, messages),
+        Ok(mut opened) => input::whole(&mut opened, bytes, label.text, messages),
         Err(error) => {
-            system::fail(label, error, messages);
+            system::fail(label.text, error, messages);
             Input {
                 at: 0,
                 end: 0,
-                last: true,
-                failed: true,
+                state: State::Broken,
             }
         }
     }
@@ -68,66 +61,57 @@ fn open<R: Files>(rt: &R, name: &[u8]) -> io::Result<R::File> {
 }
 
 // Reads the file of that label whole.
-fn read_day<R: Files, M: Write>(rt: &R, label: &[u8], bytes: &mut [u8], messages: &mut M) -> Input
-    requires { 25 ≤ length label.now }
+fn read_day<R: Files, M: Write>(rt: &R, label: Label, bytes: &mut [u8], messages: &mut M) -> Input
     ensures { IsTried result bytes.new }
 {
-    let file = open(rt, &label[messages::NAME..]);
+    let file = open(rt, label.name);
     read_file(file, label, bytes, messages)
 }
 
-// Gathers the answers of an input, if it came whole.
+// Gathers the answers of an input, if it came whole: how many there are then, if those before it came whole too. Where they did not, it is
+// read for what is to be told of it alone.
 fn gather<M: Write>(
-    q: Quarter,
+    count: Option<usize>,
     i: Input,
-    label: &[u8],
+    label: Label,
     bytes: &[u8],
     answers: &mut [[u32; 3]],
     messages: &mut M,
-) -> Quarter
-    requires { (25 ≤ length label.now) × IsTried i bytes.now }
-    ensures { IsAdded (incoming i bytes.now) q answers.old result answers.new }
+) -> Option<usize>
+    requires { IsTried i bytes.now }
+    ensures { IsAdded (incoming i bytes.now) count answers.old result answers.new }
 {
-    if i.failed {
-        return Quarter {
-            count: q.count,
-            whole: false,
-        };
-    }
-    if !i.last {
-        messages::too_long(label, messages);
-        return Quarter {
-            count: q.count,
-            whole: false,
-        };
-    }
-    let end = i.end;
-    let g = gathering::gather(&bytes[..end], answers, q.count);
-    messages::ended_by(label, g.refusal, messages);
-    Quarter {
-        count: g.count,
-        whole: q.whole,
+    match i.state {
+        State::Broken => None,
+        State::Open => {
+            messages::too_long(label, messages);
+            None
+        }
+        State::Ended => {
+            let g = gathering::gather(&bytes[..i.end], answers, count.unwrap_or(0));
+            messages::ended_by(label, g.refusal, messages);
+            count.and(Some(g.count))
+        }
     }
 }
 
 // Reads the file of that label, and gathers its answers.
 fn add_day<R: Files, M: Write + IsTerminal>(
     rt: &R,
-    q: Quarter,
-    label: &[u8],
+    count: Option<usize>,
+    label: Label,
     bytes: &mut [u8],
     answers: &mut [[u32; 3]],
     messages: &mut M,
-) -> Quarter
-    requires { 25 ≤ length label.now }
-    ensures { IsDayAdded (length bytes.old) q answers.old result answers.new }
+) -> Option<usize>
+    ensures { IsDayAdded (length bytes.old) count answers.old result answers.new }
 {
     messages::at(label, messages);
     let i = read_day(rt, label, bytes, messages);
-    gather(q, i, label, bytes, answers, messages)
+    gather(count, i, label, bytes, answers, messages)
 }
 
-// Gathers the answers of the files that the arguments from the third to the last of n name.
+// Gathers the answers of the files that the arguments from the third to the last of n name: how many there are, if every file came whole.
 pub fn read_days<R: Env + Files, M: Write + IsTerminal>(
     rt: &R,
     n: usize,
@@ -135,19 +119,19 @@ pub fn read_days<R: Env + Files, M: Write + IsTerminal>(
     bytes: &mut [u8],
     answers: &mut [[u32; 3]],
     messages: &mut M,
-) -> Quarter
+) -> Option<usize>
     requires { (2 ≤ n) × (25 ≤ length label.old) }
     ensures { AreRead (n - 2) (length bytes.old) answers.old answers.new result }
 {
-    let mut q = Quarter {
-        count: 0,
-        whole: true,
-    };
-    let mut i = 2;
-    while i < n {
+    let mut count = Some(0);
+    for i in 2..n {
         let end = name(rt, i, label);
-        q = add_day(rt, q, &label[..end], bytes, answers, messages);
-        i += 1;
+        let text = &label[..end];
+        let named = Label {
+            text,
+            name: &text[messages::NAME..],
+        };
+        count = add_day(rt, count, named, bytes, answers, messages);
     }
-    q
+    count
 }

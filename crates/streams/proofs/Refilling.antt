@@ -1,19 +1,21 @@
 -- What filling up the input buffer comes to: what was left lies at the front, and what a read gave stands behind it.
-use Prim.Native.Nat.{ℕ, ◌+◌, ◌-◌, ◌<◌}
+use Prim.Native.Nat.{ℕ, ◌+◌, ◌-◌}
 use native.Mathlib.Omega.{arith}
-use mathlib.Core.Path.{◌≡◌, sym, ap, ap₂, subst, ◌∙◌}
-use mathlib.Core.Bool.{true, false}
+use mathlib.Core.Path.{◌≡◌, refl, sym, ap, subst, ◌∙◌}
+use mathlib.Core.Bool.{Bool, true, false, cond}
 use mathlib.Core.List.{List, [], ◌∷◌, ◌++◌}
-use lib.ListN.{length, take, drop, get_or, length-drop}
-use lib.Seq.{length-take-le, take_at, take-add, get_or-append-add, get_or-drop}
+use lib.ListN.{length, take, drop, length-drop}
+use lib.Seq.{length-take-le, take_at, take-add}
 use lib.Dec.{eqb}
 use borrow.Author.Tests.{eq-eqb, ne_eqb}
-use Rattle.snapshot.specs.Lists.{over}
+use Rattle.std.specs.List.{copy_within}
 use Rattle.streams.specs.declared.input.Input.{Input}
-use Rattle.streams.specs.declared.system.Transfer.{Transfer}
-use Rattle.streams.specs.declared.system.Transfer.TheVariants.{Bytes, Interrupted, Failed}
+use Rattle.std.specs.Prelude.{Result, Ok, Err}
+use Rattle.streams.specs.declared.input.State.TheVariants.{Open, Ended}
+use Rattle.streams.specs.declared.system.Stop.{Stop}
+use Rattle.streams.specs.declared.system.Stop.TheVariants.{Interrupted, Failed}
 use Rattle.streams.specs.System.{AtMost}
-use Rattle.streams.specs.Input.{Within, input_left, came, interrupted, fault, is_nothing, input_by, IsRefill}
+use Rattle.streams.specs.Input.{Within, input_left, is_last, is_broken, came, interrupted, fault, is_nothing, input_by, IsRefill}
 
 -- how many bytes lie in an input buffer
 pub left_long : (i : Input) (bytes : List ℕ) → Within i (length bytes) → length (input_left i bytes) ≡ i.end - i.at
@@ -21,18 +23,18 @@ left_long i bytes w =
     let d = length-drop i.at bytes in let a = w.start in let b = w.stop in
     length-take-le (i.end - i.at) (drop i.at bytes) (omega (arith, d, a, b))
 
--- moving bytes to the front one at a time, what is read is still as it was
-pub shift_reads : (b : List ℕ) (at i : ℕ) → at + i < length b → get_or (over i (drop at b) b) (at + i) 0 ≡ get_or (drop at b) i 0
-shift_reads b at i l =
-    let front = length-take-le i (drop at b) (let d = length-drop at b in omega (arith, d, l)) in
-    let e : at + i ≡ length (take i (drop at b)) + at = omega (arith, front) in
-    let g : i + at ≡ at + i = omega arith in
-    ap (λ k. get_or (over i (drop at b) b) k 0) e ∙ get_or-append-add (take i (drop at b)) (drop i b) at 0
-    ∙ get_or-drop i b at 0 ∙ ap (λ k. get_or b k 0) g ∙ sym (get_or-drop at b i 0)
+-- what k bytes that came say of the rest
+module _ (k : ℕ) where
+  nothing_last : (c : List ℕ) → length c ≡ k → is_last (cond (eqb k 0) Ended Open) ≡ is_nothing c
+  nothing_last [] e = ap (λ b. is_last (cond b Ended Open)) (eq-eqb k 0 (sym e))
+  nothing_last (x ∷ c) e = ap (λ b. is_last (cond b Ended Open)) (ne_eqb k 0 (λ q. omega (arith, e, q)))
 
-nothing_is : (k : ℕ) (c : List ℕ) → length c ≡ k → eqb k 0 ≡ is_nothing c
-nothing_is k [] e = eq-eqb k 0 (sym e)
-nothing_is k (x ∷ c) e = ne_eqb k 0 (λ q. omega (arith, e, q))
+  none_broken : is_broken (cond (eqb k 0) Ended Open) ≡ false
+  none_broken = go (eqb k 0)
+    where
+      go : (b : Bool) → is_broken (cond b Ended Open) ≡ false
+      go true = refl
+      go false = refl
 
 module _ (i : Input) (b after : List ℕ) (w : Within i (length b)) (long : length after ≡ length b) where
   abbrev n : ℕ
@@ -47,30 +49,30 @@ module _ (i : Input) (b after : List ℕ) (w : Within i (length b)) (long : leng
         let e : n + k - 0 ≡ n + k = omega arith in
         ap (λ m. take m after) e ∙ take-add n k after ∙ ap (λ l. l ++ take k (drop n after)) kept
 
-    refilled : (t : Transfer) → AtMost (length b - n) t → Within (input_by n t) (length after) × IsRefill i b (input_by n t) after
+    refilled : (t : Result ℕ Stop) → AtMost (length b - n) t → Within (input_by n t) (length after) × IsRefill i b (input_by n t) after
     unfolding input_by
-    refilled (Bytes k) few =
+    refilled (Ok k) few =
         let s = w.start in let z = w.stop in
         let c = take k (drop n after) in
         let is : length c ≡ k = length-take-le k (drop n after) (let d = length-drop n after in omega (arith, d, few, long)) in (
           record { start = omega arith; stop = omega (arith, few, long, s, z) },
-          (came c, ap₂ (λ l e. record { left = l; last = e; failed = false }) (left_more k) (nothing_is k c is)),
+          (came c, λ j. record { left = left_more k j; last = nothing_last k c is j; failed = none_broken k j }),
         )
-    refilled Interrupted few =
+    refilled (Err Interrupted) few =
         let s = w.start in let z = w.stop in (
           record { start = omega arith; stop = omega (arith, long, s, z) },
           (interrupted, ap (λ l. record { left = l; last = false; failed = false }) left_kept),
         )
-    refilled Failed few =
+    refilled (Err Failed) few =
         let s = w.start in let z = w.stop in (
           record { start = omega arith; stop = omega (arith, long, s, z) },
           (fault, ap (λ l. record { left = l; last = true; failed = true }) left_kept),
         )
 
-    pub refill_is : (t : Transfer) → AtMost (length b - n) t → (j : Input) → j ≡ input_by n t →
+    pub refill_is : (t : Result ℕ Stop) → AtMost (length b - n) t → (j : Input) → j ≡ input_by n t →
         Within j (length after) × IsRefill i b j after
     refill_is t few j e = subst (λ k. Within k (length after) × IsRefill i b k after) (sym e) (refilled t few)
 
   -- what was moved to the front is what was left
-  pub kept_is : (mid : List ℕ) → mid ≡ over n (drop i.at b) b → take n after ≡ take n mid → take n after ≡ input_left i b
-  kept_is mid moved kept = kept ∙ ap (take n) moved ∙ take_at (input_left i b) (drop n b) n (left_long i b w)
+  pub kept_is : (mid : List ℕ) → mid ≡ copy_within b i.at i.end 0 → take n after ≡ take n mid → take n after ≡ input_left i b
+  kept_is mid moved kept = kept ∙ ap (take n) moved ∙ take_at (input_left i b) (drop (0 + n) b) n (left_long i b w)

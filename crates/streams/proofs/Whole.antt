@@ -1,5 +1,5 @@
 -- Reading a whole input: what one more read behind what has come leaves, and that a file which fits in the buffer with a byte to
--- spare lies in it whole (`whole-file`), where a longer one fills it (`whole-full`).
+-- spare lies in it whole (`whole_file`), where a longer one fills it (`whole_full`).
 use Prim.Native.Nat.{ℕ, suc, ◌+◌, ◌-◌, ◌^◌, ◌≤◌, ◌<◌}
 use native.Mathlib.Decide.{dec_lt}
 use native.Mathlib.Omega.{arith}
@@ -9,12 +9,15 @@ use mathlib.Core.Logic.{by_cases}
 use mathlib.Core.List.{List, [], ◌∷◌, ◌++◌, append_assoc, append-nil}
 use lib.ListN.{length, take, drop, length-append}
 use Rattle.streams.specs.declared.input.Input.{Input}
-use Rattle.streams.specs.declared.system.Transfer.{Transfer}
-use Rattle.streams.specs.declared.system.Transfer.TheVariants.{Bytes, Interrupted, Failed}
+use Rattle.std.specs.Prelude.{Result, Ok, Err}
+use Rattle.streams.specs.declared.input.State.{State}
+use Rattle.streams.specs.declared.input.State.TheVariants.{Open, Ended, Broken}
+use Rattle.streams.specs.declared.system.Stop.{Stop}
+use Rattle.streams.specs.declared.system.Stop.TheVariants.{Interrupted, Failed}
 use Rattle.streams.specs.System.{AtMost}
 use Rattle.streams.specs.Input.{Incoming, expecting, complete, Gave, came, interrupted, fault, filled, ReadsTo}
 use Rattle.streams.specs.Input.{ReadsFile, interruption, interruptions}
-use Rattle.streams.specs.Input.{Within, input_left, incoming, input_by, IsWhole}
+use Rattle.streams.specs.Input.{Within, input_left, is_last, incoming, input_by, IsWhole}
 use Rattle.streams.proofs.Transfers.{at_most_le}
 use Rattle.streams.proofs.Refilling.{left_long, refill_is}
 
@@ -26,22 +29,22 @@ front_left i bytes front =
     let all : i.end - i.at ≡ i.end = omega (arith, front) in
     ap (λ k. take k (drop i.at bytes)) all ∙ ap (λ a. take i.end (drop a bytes)) front
 
--- the input so far lies at the front of a buffer, by reads of which `left` more can be made
-pub record Coming (i : Input) (bytes : List ℕ) (left : ℕ) : Type 0 where
+-- the input so far lies at the front of a buffer, by so many reads
+pub record Coming (i : Input) (bytes : List ℕ) (made : ℕ) : Type 0 where
   pub within : Within i (length bytes)
   pub front : i.at ≡ 0
   pub gave : List Gave
   pub reads : ReadsTo (length bytes) (expecting []) gave (incoming i bytes)
-  pub counted : length gave + left ≡ 2 ^ 64 - 1
+  pub counted : length gave ≡ made
 
 -- before the first read
-pub none_came : (bytes : List ℕ) → Coming (record { at = 0; end = 0; last = false; failed = false }) bytes (2 ^ 64 - 1)
+pub none_came : (bytes : List ℕ) → Coming (record { at = 0; end = 0; state = Open }) bytes 0
 none_came bytes = record {
   within = record { start = omega arith; stop = omega arith };
   front = refl;
   gave = [];
   reads = refl;
-  counted = omega arith;
+  counted = refl;
 }
 
 -- another read at the end
@@ -52,17 +55,17 @@ reads_more n [] i j k e more room g new =
 reads_more n (h ∷ gs) i j k p more room g new = (p.0, (p.1.0, reads_more n gs (filled i h) j k p.1.1 more room g new))
 
 -- what came lies at the front again
-by_front : (kept : ℕ) (t : Transfer) → (input_by kept t).at ≡ 0
+by_front : (kept : ℕ) (t : Result ℕ Stop) → (input_by kept t).at ≡ 0
 unfolding input_by
-by_front kept (Bytes n) = refl
-by_front kept Interrupted = refl
-by_front kept Failed = refl
+by_front kept (Ok n) = refl
+by_front kept (Err Interrupted) = refl
+by_front kept (Err Failed) = refl
 
 -- a read behind what has come
-module _ (i : Input) (b : List ℕ) (left : ℕ) (so_far : Coming i b left) (more : i.last ≡ false) (room : i.end < length b) where
-  pub one_more : 0 < left → (after : List ℕ) → length after ≡ length b → take i.end after ≡ take i.end b →
-      (t : Transfer) → AtMost (length b - i.end) t → (j : Input) → j ≡ input_by i.end t → Coming j after (left - 1)
-  one_more some after long kept t few j e =
+module _ (i : Input) (b : List ℕ) (made : ℕ) (so_far : Coming i b made) (room : i.end < length b) (more : i.state ≡ Open) where
+  pub one_more : (after : List ℕ) → length after ≡ length b → take i.end after ≡ take i.end b →
+      (t : Result ℕ Stop) → AtMost (length b - i.end) t → (j : Input) → j ≡ input_by i.end t → Coming j after (made + 1)
+  one_more after long kept t few j e =
       let front = so_far.front in
       let counted = so_far.counted in
       let here = left_long i b so_far.within in
@@ -77,19 +80,19 @@ module _ (i : Input) (b : List ℕ) (left : ℕ) (so_far : Coming i b left) (mor
         front = ap (λ (k : Input). k.at) e ∙ by_front i.end t;
         gave = so_far.gave ++ (g ∷ []);
         reads = subst (λ n. ReadsTo n (expecting []) (so_far.gave ++ (g ∷ [])) (incoming j after)) (sym long)
-            (reads_more (length b) so_far.gave _ _ _ so_far.reads more (omega (arith, here, room)) g is.1.1);
-        counted = omega (arith, one, counted, some);
+            (reads_more (length b) so_far.gave _ _ _ so_far.reads (ap is_last more) (omega (arith, here, room)) g is.1.1);
+        counted = omega (arith, one, counted);
       }
 
 -- the loop has stopped
-pub whole_is : (i : Input) (bytes : List ℕ) (left : ℕ) → Coming i bytes left →
-    (i.last ≡ false → i.end < length bytes → left ≡ 0) → IsWhole i bytes
-whole_is i bytes left so_far stopped = record {
+pub whole_is : (i : Input) (bytes : List ℕ) (made : ℕ) → Coming i bytes made →
+    (i.state ≡ Open → i.end < length bytes → made ≡ 2 ^ 64 - 1) → IsWhole i bytes
+whole_is i bytes made so_far stopped = record {
   within = so_far.within;
   front = so_far.front;
   gave = so_far.gave;
   reads = so_far.reads;
-  all = λ more room. let none = stopped more room in let n = so_far.counted in omega (arith, none, n);
+  all = λ more room. so_far.counted ∙ stopped more room;
 }
 
 -- ---- a file
@@ -133,6 +136,11 @@ comes n (fault ∷ gs) l j p file rest r = absurd r.1.0
 
 -- ---- the theorems
 
+still_open : (s : State) → is_last s ≡ false → s ≡ Open
+still_open Open e = refl
+still_open Ended e = absurd (true≢false e)
+still_open Broken e = absurd (true≢false e)
+
 module _ {i : Input} {bytes : List ℕ} (w : IsWhole i bytes) (file rest : List ℕ) (reads : ReadsFile w.gave file rest)
     (enough : length file + interruptions w.gave < 2 ^ 64 - 1) where
   -- where the file is not at its end, the buffer is full
@@ -140,7 +148,7 @@ module _ {i : Input} {bytes : List ℕ} (w : IsWhole i bytes) (file rest : List 
       length w.gave + length rest ≤ length file + interruptions w.gave → i.end ≡ length bytes
   full m is less =
       by_cases (dec_lt i.end (length bytes))
-      (λ l. let n = w.all (ap (λ z. z.last) is) l in absurd (omega (arith, n, less, enough)))
+      (λ l. let n = w.all (still_open i.state (ap (λ z. z.last) is)) l in absurd (omega (arith, n, less, enough)))
       (λ l. let stop = w.within.stop in omega (arith, stop))
 
   -- however the reads cut a file that fits in the buffer with a byte to spare, it lies there whole
@@ -158,10 +166,10 @@ module _ {i : Input} {bytes : List ℕ} (w : IsWhole i bytes) (file rest : List 
           absurd (omega (arith, fits, here, front, came, parts, end))
 
   -- a longer one fills the buffer
-  pub whole_full : length bytes ≤ length file → (i.end ≡ length bytes) × (i.last ≡ false) × (i.failed ≡ false)
+  pub whole_full : length bytes ≤ length file → (i.end ≡ length bytes) × (i.state ≡ Open)
   whole_full over = go (comes (length bytes) w.gave [] (incoming i bytes) w.reads file rest reads)
     where
       go : Comes (length bytes) [] w.gave file rest (incoming i bytes) →
-          (i.end ≡ length bytes) × (i.last ≡ false) × (i.failed ≡ false)
+          (i.end ≡ length bytes) × (i.state ≡ Open)
       go (ends short is) = absurd (omega (arith, short, over))
-      go (rests m is cut less) = (full m is less, ap (λ z. z.last) is, ap (λ z. z.failed) is)
+      go (rests m is cut less) = (full m is less, still_open i.state (ap (λ z. z.last) is))

@@ -1,32 +1,25 @@
-// The input buffer: the bytes from `at` up to `end` are still to be read. `last` says that no more will come, and `failed` that
-// this is because a read failed.
-ghost use Rattle.std.specs.Prelude.{◌≡◌, ◌+◌, ◌-◌, ◌≤◌, ◌<◌, ◌^◌, length, take, drop};
-ghost use Rattle.snapshot.specs.Lists.{over};
+// The input buffer: the bytes from `at` up to `end` are still to be read, and `state` says whether more may come.
+ghost use Rattle.std.specs.Prelude.{◌≡◌, ◌+◌, ◌-◌, ◌≤◌, ◌<◌, ◌^◌, length, take};
 ghost use Rattle.streams.specs.System.{AtMost};
 ghost use Rattle.streams.specs.Input.{Within, input_by, IsRefill, IsWhole};
 
 use crate::system;
-use crate::system::Transfer;
+use crate::system::Stop;
 use std::io::{Read, Write};
+
+// More may come; the file has ended; or a read failed, after which none is made.
+#[derive(Clone, Copy)]
+pub enum State {
+    Open,
+    Ended,
+    Broken,
+}
 
 #[derive(Clone, Copy)]
 pub struct Input {
     pub at: usize,
     pub end: usize,
-    pub last: bool,
-    pub failed: bool,
-}
-
-// Moves the n bytes from `at` on to the front.
-fn shift(bytes: &mut [u8], at: usize, n: usize)
-    requires { at + n ≤ length bytes.old }
-    ensures { bytes.new ≡ over n (drop at bytes.old) bytes.old }
-{
-    let mut i = 0;
-    while i < n {
-        bytes[i] = bytes[at + i];
-        i += 1;
-    }
+    pub state: State,
 }
 
 // One read of a file into the bytes from `to` on, of which there is at least one, so that a read that gives nothing is the end of the
@@ -37,7 +30,7 @@ fn read_at<R: Read, M: Write>(
     to: usize,
     what: &[u8],
     messages: &mut M,
-) -> Transfer
+) -> Result<usize, Stop>
     requires { to < length bytes.old }
     ensures at_most { AtMost (length bytes.old - to) result }
     ensures bytes_unchanged { take to bytes.new ≡ take to bytes.old }
@@ -49,30 +42,17 @@ fn read_at<R: Read, M: Write>(
 
 // The input once a read answered, where that many bytes were kept.
 #[tactic(auto, unfolding(crate::specs::Input::input_by))]
-fn input_by(kept: usize, t: Transfer) -> Input
-    requires { AtMost (2 ^ 64 - 1 - kept) t }
-    ensures { result ≡ input_by kept t }
+fn input_by(kept: usize, got: Result<usize, Stop>) -> Input
+    requires { AtMost (2 ^ 64 - 1 - kept) got }
+    ensures { result ≡ input_by kept got }
 {
-    match t {
-        Transfer::Bytes(n) => Input {
-            at: 0,
-            end: kept + n,
-            last: n == 0,
-            failed: false,
-        },
-        Transfer::Interrupted => Input {
-            at: 0,
-            end: kept,
-            last: false,
-            failed: false,
-        },
-        Transfer::Failed => Input {
-            at: 0,
-            end: kept,
-            last: true,
-            failed: true,
-        },
-    }
+    let (end, state) = match got {
+        Ok(0) => (kept, State::Ended),
+        Ok(n) => (kept + n, State::Open),
+        Err(Stop::Interrupted) => (kept, State::Open),
+        Err(Stop::Failed) => (kept, State::Broken),
+    };
+    Input { at: 0, end, state }
 }
 
 // What is left moves to the front, and one read of a file fills up the rest; `what` begins the message of one that fails.
@@ -86,15 +66,14 @@ pub fn refill<R: Read, M: Write>(
     requires { Within from (length bytes.old) × (from.end - from.at < length bytes.old) }
     ensures { Within result (length bytes.new) × IsRefill from bytes.old result bytes.new }
 {
-    let at = from.at;
-    let kept = from.end - at;
-    shift(bytes, at, kept);
-    let t = read_at(file, bytes, kept, what, messages);
-    input_by(kept, t)
+    let kept = from.end - from.at;
+    bytes.copy_within(from.at..from.end, 0);
+    let got = read_at(file, bytes, kept, what, messages);
+    input_by(kept, got)
 }
 
 // Reads a file until it ends, a read fails, or the buffer is full; `what` begins the message of a read that fails. A read that was
-// interrupted is made again; nothing says how often that can be, so the loop counts its reads down from a number that none uses up.
+// interrupted is made again; nothing says how often that can be, so the reads are counted up to a number that they never reach.
 pub fn whole<R: Read, M: Write>(
     file: &mut R,
     bytes: &mut [u8],
@@ -106,15 +85,15 @@ pub fn whole<R: Read, M: Write>(
     let mut input = Input {
         at: 0,
         end: 0,
-        last: false,
-        failed: false,
+        state: State::Open,
     };
-    let mut reads = u64::MAX;
-    while !input.last && input.end < bytes.len() && reads > 0 {
+    for _ in 0..u64::MAX {
         let end = input.end;
-        let t = read_at(file, bytes, end, what, messages);
-        input = input_by(end, t);
-        reads -= 1;
+        if !matches!(input.state, State::Open) || end >= bytes.len() {
+            break;
+        }
+        let got = read_at(file, bytes, end, what, messages);
+        input = input_by(end, got);
     }
     input
 }

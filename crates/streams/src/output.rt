@@ -1,63 +1,61 @@
 // The output: bytes are written to a file in as many writes as they take; `what` begins the message of one that fails.
-ghost use Rattle.std.specs.Prelude.{◌-◌, ◌≤◌, ◌<◌, length, take};
+ghost use Rattle.std.specs.Prelude.{◌<◌, is_ok, length};
 ghost use Rattle.streams.specs.System.{AtMost, IsSent};
 
 use crate::system;
-use crate::system::Transfer;
+use crate::system::Stop;
 use std::io;
 use std::io::{ErrorKind, Write};
 
-// One write of the bytes from `from` up to n, of which there is at least one: a write that takes none is one that failed.
-fn write_from<W: Write, M: Write>(
+// Not all bytes were written; a write that failed was told where it failed.
+#[derive(Clone, Copy)]
+pub struct Unsent;
+
+// One write of bytes of which there is at least one: a write that takes none is one that failed.
+fn write_some<W: Write, M: Write>(
     file: &mut W,
-    out: &[u8],
-    from: usize,
-    n: usize,
+    rest: &[u8],
     what: &[u8],
     messages: &mut M,
-) -> Transfer
-    requires { (from < n) × (n ≤ length out.now) }
-    ensures { AtMost (n - from) result }
+) -> Result<usize, Stop>
+    requires { 0 < length rest.now }
+    ensures { AtMost (length rest.now) result }
 {
-    let rest = &out[from..n];
     let put = file.write(rest);
     if let Ok(0) = put {
         system::fail(what, io::Error::from(ErrorKind::WriteZero), messages);
-        return Transfer::Failed;
+        return Err(Stop::Failed);
     }
     system::meaning(put, rest, what, messages)
 }
 
-// Writes the first n bytes to a file, and answers whether all were taken. A write that was interrupted is made again; nothing says how often
-// that can be, so the loop counts its writes down from a number that none uses up.
+// Writes bytes to a file, and answers whether all were taken. A write that was interrupted is made again; nothing says how often that can
+// be, so the writes are counted up to a number that they never reach.
 pub fn write_to<W: Write, M: Write>(
     file: &mut W,
     out: &[u8],
-    n: usize,
     what: &[u8],
     messages: &mut M,
-) -> bool
-    requires { n ≤ length out.now }
-    ensures { IsSent (take n out.now) result }
+) -> Result<(), Unsent>
+    ensures { IsSent out.now (is_ok result) }
 {
-    let mut done = 0;
-    let mut writes = u64::MAX;
-    while done < n && writes > 0 {
-        let t = write_from(file, out, done, n, what, messages);
-        match t {
-            Transfer::Bytes(k) => done += k,
-            Transfer::Interrupted => {}
-            Transfer::Failed => return false,
+    let mut rest = out;
+    for _ in 0..u64::MAX {
+        if rest.is_empty() {
+            break;
         }
-        writes -= 1;
+        match write_some(file, rest, what, messages) {
+            Ok(k) => rest = &rest[k..],
+            Err(Stop::Interrupted) => {}
+            Err(Stop::Failed) => return Err(Unsent),
+        }
     }
-    done == n
+    if rest.is_empty() { Ok(()) } else { Err(Unsent) }
 }
 
 // The same to standard output.
-pub fn write_out(rt: &HostRuntime, out: &[u8], n: usize, what: &[u8]) -> bool
-    requires { n ≤ length out.now }
-    ensures { IsSent (take n out.now) result }
+pub fn write_out(rt: &HostRuntime, out: &[u8], what: &[u8]) -> Result<(), Unsent>
+    ensures { IsSent out.now (is_ok result) }
 {
-    write_to(&mut rt.stdout(), out, n, what, &mut rt.stderr())
+    write_to(&mut rt.stdout(), out, what, &mut rt.stderr())
 }

@@ -6,10 +6,9 @@ ghost use Rattle.streams.specs.System.{Means, AtMost};
 use std::io::{ErrorKind, Write};
 use std::{io, str};
 
-// How many bytes a call moved, that it was interrupted before it moved one, or that it failed.
+// Why a call moved no byte: it was interrupted before it moved one, or it failed, which was told there.
 #[derive(Clone, Copy)]
-pub enum Transfer {
-    Bytes(usize),
+pub enum Stop {
     Interrupted,
     Failed,
 }
@@ -29,12 +28,12 @@ fn lay_text(error: io::Error, text: &mut [u8]) -> usize {
 
 // The text of an error as the system has it: the number that std puts behind it is left out.
 fn system_text(text: &[u8]) -> &[u8] {
-    match str::from_utf8(text) {
-        Ok(shown) => match shown.rsplit_once(NUMBER) {
-            Some((before, _)) => before.as_bytes(),
-            None => text,
-        },
-        Err(_) => text,
+    let Ok(shown) = str::from_utf8(text) else {
+        return text;
+    };
+    match shown.rsplit_once(NUMBER) {
+        Some((before, _)) => before.as_bytes(),
+        None => text,
     }
 }
 
@@ -49,24 +48,24 @@ pub fn fail<M: Write>(what: &[u8], error: io::Error, messages: &mut M) {
     let _ = messages.write_all(b"\n");
 }
 
-// What `got` means, which a call on that buffer answered; `what` begins the message.
+// What `got` means, which a call on that buffer answered: how many bytes it moved, or why none; `what` begins the message.
 pub fn meaning<M: Write>(
     got: io::Result<usize>,
     buf: &[u8],
     what: &[u8],
     messages: &mut M,
-) -> Transfer
+) -> Result<usize, Stop>
     ensures means { Means got (length buf.now) result }
     ensures at_most { AtMost (length buf.now) result }
 {
     match got {
-        Ok(n) => Transfer::Bytes(n.min(buf.len())),
+        Ok(n) => Ok(n.min(buf.len())),
         Err(error) => {
             if error.kind() == ErrorKind::Interrupted {
-                return Transfer::Interrupted;
+                return Err(Stop::Interrupted);
             }
             fail(what, error, messages);
-            Transfer::Failed
+            Err(Stop::Failed)
         }
     }
 }

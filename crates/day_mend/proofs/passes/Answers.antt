@@ -4,8 +4,9 @@ use Rattle.snapshot.specs.Requests.{blank_day}
 use Rattle.dayfile.specs.Pieces.{pieces}
 use Rattle.packed_days.specs.Boxes.{box_in}
 use Rattle.mending.specs.Mending.{judged}
-use Rattle.day_mend.proofs.Passed.{goes_ahead, all_passed}
+use Rattle.day_mend.proofs.Passed.{goes_ahead, all_stopped, all_passed}
 use Rattle.day_mend.proofs.passes.Goals as goal
+use Rattle.day_mend.proofs.passes.Goals.{then-loop-s-test+else-s-bytes, else-loop-s-test}
 
 pub loop-s-preserved : goal.loop-s-preserved
 loop-s-preserved c =
@@ -20,10 +21,14 @@ loop-s-preserved c =
           c.loop-s-test.true p.result _ _ p.ensures;
     }
 
-pub returns-else-s-bytes : goal.returns-else-s-bytes
-returns-else-s-bytes c =
+pub returns : goal.returns
+returns c =
     let a = c.args in
     let bytes = a.bytes.now in
     let l = c.loop-s in
-    all_passed bytes (judged (box_in blank_day a.t.now a.page.now) (pieces bytes)) l.s l.t l.page l.invariant.ahead
-    c.loop-s-test.true (search rules)
+    let all = judged (box_in blank_day a.t.now a.page.now) (pieces bytes) in
+    elim c.loop-s-test.branch [
+      | then-loop-s-test+else-s-bytes w ↦
+          all_passed bytes all l.s l.t l.page l.invariant.ahead w.loop-s-test.true w.if-s-bytes.false
+      | else-loop-s-test w ↦ all_stopped bytes all l.s l.t l.page l.invariant.ahead w.loop-s-test.false
+    ]

@@ -14,7 +14,7 @@ invariant-loop-s l = record {
   eight : length l.t ≡ 8;
   long : LongRows l.t;
   ahead : Ahead (judged (box_in blank_day l.initial.t l.initial.page) (pieces l.bytes)) l.s.at (parts_from l.bytes l.s l.t l.page)
-      l.s.went l.s.told;
+      l.s.wrote.went l.s.wrote.told;
 }
 
 abbrev pub decreases-loop-s : goal.decreases-loop-s

@@ -1,22 +1,16 @@
 -- One file more.
-use Rattle.std.proofs.Common.{◌≡◌, ◌+◌, ◌-◌, length, arith, subst}
+use Rattle.std.proofs.Common.{ℕ, ◌≡◌, ◌+◌, ◌-◌, length, arith, sym, subst}
 use Rattle.quarters.specs.Days.{AreRead}
 use Rattle.quarters.proofs.Days.{one_more}
 use Rattle.quarters.proofs.read_days.Goals as goal
 
 pub loop-i-preserved : goal.loop-i-preserved
 loop-i-preserved g c =
-    let a = c.args in
     let l = c.loop-i in
-    let add = c.add_day-q in
-    let size = length l.bytes in
-    let here = l.invariant.from in
+    let add = c.add_day-count in
+    let here = l.auto.i in
     let more : l.i - 2 + 1 ≡ l.i + 1 - 2 = omega (arith, here) in
-    let same : length l.bytes ≡ length add.new.bytes = omega (arith, add.auto.bytes) in
-    record {
-      from = omega arith;
-      to = omega arith;
-      read = subst (λ k. AreRead (l.i + 1 - 2) k a.answers.now add.new.answers add.result) same
-          (subst (λ k. AreRead k size a.answers.now add.new.answers add.result) more
-          (one_more (l.i - 2) size a.answers.now l.answers l.q add.new.answers add.result l.invariant.read add.ensures));
-    }
+    let Read : ℕ → ℕ → Type 0 = λ files size. AreRead files size c.args.answers.now add.new.answers add.result in
+    subst (λ size. Read (l.i + 1 - 2) size) (sym add.auto.bytes)
+    (subst (λ files. Read files (length l.bytes)) more
+    (one_more (l.i - 2) (length l.bytes) c.args.answers.now l.answers l.count add.new.answers add.result l.invariant add.ensures))

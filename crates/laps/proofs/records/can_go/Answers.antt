@@ -1,55 +1,40 @@
--- `laps::records::can_go` meets its contract.
-use Prim.Native.Nat.{◌+◌, ◌-◌}
-use mathlib.Core.Path.{sym}
+-- There is a lap where there is room for a line, and a record lies whole in the input or no more will come.
+use Rattle.std.proofs.Common.{◌≡◌, ◌+◌, true, inl, inr, ap, sym, arith}
 use mathlib.Core.Bool.{and-false}
-use native.Mathlib.Omega.{arith}
 use borrow.Author.Tests.{le-leb, lt-leb}
+use Rattle.streams.specs.Input.{is_last}
 use Rattle.laps.specs.Progress.{can_go}
 use Rattle.laps.proofs.records.can_go.Goals as goal
+use Rattle.laps.proofs.records.can_go.Goals.{then-at-via-then-at, then-at-via-else-at+then-saturating_sub-lt-LONGEST}
 
 pub returns-then-at : goal.returns-then-at
 unfolding can_go
-returns-then-at c = rw (c.if-at.true, and-false)
-
-pub returns-then-room-at : goal.returns-then-room-at
-unfolding can_go
-returns-then-room-at c =
+returns-then-at c =
     let a = c.args in
-    let l = c.if-room-at.true in
-    rw (lt-leb (a.at.written + 272) a.room (omega arith))
+    elim c.then-at.branch [
+      | then-at-via-then-at w ↦ rw (w.if-at.true, and-false)
+      | then-at-via-else-at+then-saturating_sub-lt-LONGEST w ↦
+          let l = w.if-saturating_sub-lt-LONGEST.true in
+          let e = w.saturating_sub.ensures in
+          rw (lt-leb (a.at.written + 272) a.room (omega (arith, l, e)))
+    ]
 
-pub returns-then-room-at-lt-LONGEST : goal.returns-then-room-at-lt-LONGEST
+pub returns-in-Open : goal.returns-in-Open
 unfolding can_go
-returns-then-room-at-lt-LONGEST c =
+returns-in-Open c =
     let a = c.args in
-    let l = c.if-room-at-lt-LONGEST.true in
-    let m = c.if-room-at.false in
-    rw (lt-leb (a.at.written + 272) a.room (omega arith))
+    let l = c.if-saturating_sub-lt-LONGEST.false in
+    let e = c.saturating_sub.ensures in
+    let room = le-leb (a.at.written + 272) a.room (omega (arith, l, e)) in
+    let more = ap is_last c.in-Open.is in
+    sym (rw (room, c.if-at.false, more, c.saturating_sub-in-Open.ensures))
 
-pub returns-then-input : goal.returns-then-input
+pub returns-in-Ended : goal.returns-in-Ended
 unfolding can_go
-returns-then-input c =
+returns-in-Ended c =
     let a = c.args in
-    let l = c.if-room-at-lt-LONGEST.false in
-    let m = c.if-room-at.false in
-    rw (le-leb (a.at.written + 272) a.room (omega arith), c.if-at.false, c.if-input.true)
-
-pub returns-then-input-2 : goal.returns-then-input-2
-unfolding can_go
-returns-then-input-2 c =
-    let a = c.args in
-    let l = c.if-room-at-lt-LONGEST.false in
-    let m = c.if-room-at.false in
-    let k = c.if-input-2.true in
-    let room = le-leb (a.at.written + 272) a.room (omega arith) in
-    let none = lt-leb 10 (a.at.input.end - a.at.input.at) (omega arith) in
-    rw (room, c.if-at.false, c.if-input.false, none)
-
-pub returns : goal.returns
-unfolding can_go
-returns c =
-    let a = c.args in
-    let l = c.if-room-at-lt-LONGEST.false in
-    let m = c.if-room-at.false in
-    let room = le-leb (a.at.written + 272) a.room (omega arith) in
-    sym (rw (room, c.if-at.false, c.if-input.false))
+    let l = c.if-saturating_sub-lt-LONGEST.false in
+    let e = c.saturating_sub.ensures in
+    let room = le-leb (a.at.written + 272) a.room (omega (arith, l, e)) in
+    let last : is_last a.at.input.state ≡ true = elim c.in-Ended.is [ inl q ↦ ap is_last q | inr q ↦ ap is_last q ] in
+    sym (rw (room, c.if-at.false, last))

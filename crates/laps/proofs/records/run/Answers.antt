@@ -1,7 +1,8 @@
 -- A lap runs the record that stands next and lays its line, and the laps that are left come to the rest.
 use Prim.Native.Nat.{ℕ, ◌≤◌, ◌<◌}
 use native.Mathlib.Omega.{arith}
-use mathlib.Core.Path.{◌≡◌, sym, ap, ap₂, subst, ◌∙◌}
+use mathlib.Core.Path.{◌≡◌, sym, ap, subst, ◌∙◌}
+use mathlib.Core.Bool.{true}
 use mathlib.Core.List.{◌++◌}
 use lib.ListN.{length, take, drop, length-append, length-drop}
 use Rattle.std.proofs.lemmas.List.{length-take-le}
@@ -9,10 +10,11 @@ use Rattle.snapshot.specs.Values.{words_in, lasts_in}
 use Rattle.days.specs.Asking.{lent_to, asked_outcome, asked_table, asked_page}
 use Rattle.days.proofs.Kept.{lent_to_le}
 use Rattle.daytext.specs.Buffer.{laid_place, laid_text}
+use Rattle.dayfile.specs.declared.Reading.{Reading}
 use Rattle.daylines.specs.Printed.{line_of}
 use Rattle.laps.specs.Laps.{ran}
-use Rattle.laps.specs.Progress.{progress_past, lines_left, CanLay, stand_at}
-use Rattle.laps.proofs.Laps.{Turn, stand_in, next_turn, lap_fewer, lap_ready, lap_done, no_lap}
+use Rattle.laps.specs.Progress.{progress_past, lines_left, CanLay}
+use Rattle.laps.proofs.Laps.{Turn, stand_in, goes_in, lap_lent, lap_outcome, lap_page, next_turn, lap_fewer, lap_ready, lap_done, no_lap}
 use Rattle.laps.proofs.records.run.Goals as goal
 
 pub slice_bounds-table-end : goal.slice_bounds-table-end
@@ -25,37 +27,48 @@ slice_bounds-asked-end c =
     let few = subst (λ k. k ≤ 8) (sym c.lent_to-n.ensures) (lent_to_le c.loop-x.progress.day c.request_of.result) in
     sym (length-take-le c.lent_to-n.result c.loop-x.table (omega (arith, few)))
 
+-- what a turn reads, asks and comes to
+module _ (c : goal.After-slice_known-in-loop-x-2-1) where
+  abbrev turn : Turn
+  turn = record { progress = c.loop-x.progress; table = c.loop-x.table; page = c.loop-x.page; out = c.loop-x.out }
+
+  abbrev x : Reading
+  x = c.next_of-x.result
+
+  going : goes_in turn ≡ true
+  going = sym c.can_go.ensures ∙ c.loop-x-test.true
+
+  lent : c.lent_to-n.result ≡ lap_lent turn x
+  lent = c.lent_to-n.ensures ∙ ap (lent_to turn.progress.day) c.request_of.ensures
+
+  outcome : c.asked-o.result ≡ lap_outcome turn x
+  outcome = c.asked-o.ensures.value ∙ ap (λ k. asked_outcome turn.progress.day (take k turn.table) turn.page x) lent
+
+  page : c.asked-o.new.page ≡ lap_page turn x
+  page = c.asked-o.ensures.page_after ∙ ap (λ k. asked_page turn.progress.day (take k turn.table) turn.page x) lent
+
+  past : c.past-progress.result ≡ (next_turn turn x).progress
+  past =
+      c.past-progress.ensures.value
+      ∙ (λ i. progress_past turn.progress (outcome i).day (laid_place (line_of (outcome i) x) (words_in (outcome i).day.count (page i))
+      (lasts_in (outcome i).day.count (page i)) turn.out turn.progress.written) x)
+
 pub loop-x-smaller : goal.loop-x-smaller
 loop-x-smaller c =
-    let l = c.loop-x in
-    let t : Turn = record { progress = l.progress; table = l.table; page = l.page; out = l.out } in
-    let x = c.next_of-x.result in
-    let p = l.progress in
-    let go = sym c.can_go.ensures ∙ c.loop-x-test.true in
-    let n = c.lent_to-n.ensures ∙ ap (lent_to p.day) c.request_of.ensures in
-    let o = c.asked-o.ensures.value ∙ ap (λ k. asked_outcome p.day (take k l.table) l.page x) n in
-    let page = c.asked-o.ensures.page_after ∙ ap (λ k. asked_page p.day (take k l.table) l.page x) n in
-    let past = c.past-progress.ensures.value
-    ∙ (λ i. progress_past p (o i).day (laid_place (line_of (o i) x) (words_in (o i).day.count (page i))
-    (lasts_in (o i).day.count (page i)) l.out p.written) x) in
-    subst (λ s. lines_left s < lines_left p) (sym past) (lap_fewer t x l.invariant.0 go c.next_of-x.ensures.1)
+    subst (λ s. lines_left s < lines_left c.loop-x.progress) (sym (past c))
+    (lap_fewer (turn c) (x c) c.loop-x.invariant.0 (going c) c.next_of-x.ensures.1)
 
 pub loop-x-preserved : goal.loop-x-preserved
 loop-x-preserved c =
     let l = c.loop-x in
-    let t : Turn = record { progress = l.progress; table = l.table; page = l.page; out = l.out } in
-    let x = c.next_of-x.result in
-    let p = l.progress in
-    let go = sym c.can_go.ensures ∙ c.loop-x-test.true in
-    let n = c.lent_to-n.ensures ∙ ap (lent_to p.day) c.request_of.ensures in
-    let o = c.asked-o.ensures.value ∙ ap (λ k. asked_outcome p.day (take k l.table) l.page x) n in
-    let page = c.asked-o.ensures.page_after ∙ ap (λ k. asked_page p.day (take k l.table) l.page x) n in
-    let past = c.past-progress.ensures.value
-    ∙ (λ i. progress_past p (o i).day (laid_place (line_of (o i) x) (words_in (o i).day.count (page i))
-    (lasts_in (o i).day.count (page i)) l.out p.written) x) in
-    let records = c.asked-o.ensures.ps_after ∙ ap (λ k. asked_table p.day (take k l.table) l.page x) n in
+    let t = turn c in
+    let bytes = c.args.bytes.now in
+    let n = lent c in
+    let o = outcome c in
+    let records = c.asked-o.ensures.ps_after ∙ ap (λ k. asked_table l.progress.day (take k l.table) l.page (x c)) n in
     let out = c.past-progress.ensures.out_after
-    ∙ (λ i. laid_text (line_of (o i) x) (words_in (o i).day.count (page i)) (lasts_in (o i).day.count (page i)) l.out p.written) in
+    ∙ (λ i. laid_text (line_of (o i) (x c)) (words_in (o i).day.count (page c i)) (lasts_in (o i).day.count (page c i)) l.out
+    l.progress.written) in
     let new : Turn =
     record {
       progress = c.past-progress.result;
@@ -63,16 +76,16 @@ loop-x-preserved c =
       page = c.asked-o.new.page;
       out = c.past-progress.new.out;
     } in
-    let same : new ≡ next_turn t x =
-    λ i. record { progress = past i; table = records i ++ drop (n i) l.table; page = page i; out = out i } in
-    let few = subst (λ k. k ≤ 8) (sym c.lent_to-n.ensures) (lent_to_le p.day c.request_of.result) in
+    let same : new ≡ next_turn t (x c) =
+    λ i. record { progress = past c i; table = records i ++ drop (n i) l.table; page = page c i; out = out i } in
+    let few = subst (λ k. k ≤ 8) (sym c.lent_to-n.ensures) (lent_to_le l.progress.day c.request_of.result) in
     let front = c.asked-o.auto.ps ∙ length-take-le c.lent_to-n.result l.table (omega (arith, few)) in
-    let ready = subst (λ q. CanLay q (length c.args.bytes.now) (length l.out) (length l.page)) (sym past)
-    (lap_ready t x l.invariant.0 go c.next_of-x.ensures.1) in (
-      subst (λ (m : ℕ × ℕ). CanLay c.past-progress.result (length c.args.bytes.now) m.0 m.1)
+    let ready = subst (λ q. CanLay q (length bytes) (length l.out) (length l.page)) (sym (past c))
+    (lap_ready t (x c) l.invariant.0 (going c) c.next_of-x.ensures.1) in (
+      subst (λ (m : ℕ × ℕ). CanLay c.past-progress.result (length bytes) m.0 m.1)
           (λ i. (sym c.past-progress.auto.out i, sym c.asked-o.auto.page i)) ready,
-      l.invariant.1 ∙ lap_done t c.args.bytes.now l.invariant.0 go x c.next_of-x.ensures.0
-          ∙ ap (λ z. ran (stand_in z c.args.bytes.now)) (sym same),
+      l.invariant.1 ∙ lap_done t bytes l.invariant.0 (going c) (x c) c.next_of-x.ensures.0
+          ∙ ap (λ z. ran (stand_in z bytes)) (sym same),
       simp (length-append, length-drop) (omega (arith, front, few)),
       c.past-progress.auto.out ∙ l.invariant.3,
       c.asked-o.auto.page ∙ l.invariant.4,
@@ -82,7 +95,5 @@ pub returns-clause-out_after : goal.returns-clause-out_after
 returns-clause-out_after c =
     let l = c.loop-x in
     let t : Turn = record { progress = l.progress; table = l.table; page = l.page; out = l.out } in
-    let e = c.with_table.ensures in
     let halts = sym c.can_go.ensures ∙ c.loop-x-test.false in
-    ap₂ (λ q xs. stand_at q xs l.page c.args.bytes.now l.out) e.0 e.1
-    ∙ sym (l.invariant.1 ∙ no_lap t c.args.bytes.now l.invariant.0 halts)
+    sym (l.invariant.1 ∙ no_lap t c.args.bytes.now l.invariant.0 halts)

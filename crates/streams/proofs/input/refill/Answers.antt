@@ -7,8 +7,8 @@ pub returns : goal.returns
 returns g c =
     let a = c.args in
     let within = c.requires.0 in
-    let read = c.read_at-t in
-    let long = read.auto.bytes ∙ c.shift.auto.bytes in
+    let read = c.read_at-got in
+    let long = read.auto.bytes ∙ c.copy_within.ensures.len in
     refill_is a.from a.bytes.now read.new.bytes within long
-    (kept_is a.from a.bytes.now read.new.bytes within long c.shift.new.bytes c.shift.ensures read.ensures.bytes_unchanged)
+    (kept_is a.from a.bytes.now read.new.bytes within long c.copy_within.new.self c.copy_within.ensures.after read.ensures.bytes_unchanged)
     read.result (search rules) c.input_by.result c.input_by.ensures

@@ -1,30 +1,28 @@
 -- Each write takes the first of what is left, or nothing; in the end all are taken.
-use Rattle.std.proofs.Common.{◌-◌, take, arith, sym, subst}
-use Rattle.std.proofs.Math.Seq.{length-take-le}
-use Rattle.streams.specs.System.{AtMost}
-use Rattle.streams.proofs.Transfers.{Leaves, leaves_less, leaves_same, sent_all}
+use Rattle.std.proofs.Common.{◌∙◌, ap, sym, subst, rules, arith, true, false}
+use lib.ListN.{length-drop}
+use borrow.Author.Tests.{eq-eqb, ne_eqb}
+use Rattle.std.proofs.lemmas.List.{take_all}
+use Rattle.streams.proofs.Transfers.{Leaves, leaves_less, leaves_same, sent_not, sent_so}
 use Rattle.streams.proofs.output.write_to.Goals as goal
-use Rattle.streams.proofs.output.write_to.Goals.{in-Bytes, in-Interrupted}
+use Rattle.streams.proofs.output.write_to.Goals.{in-Ok, in-Err-Interrupted}
 
-pub loop-done-preserved : goal.loop-done-preserved
-loop-done-preserved g c =
-    let l = c.loop-done in
-    let bs = take c.args.n c.args.out.now in
-    elim c.match-t.branch [
-      | in-Bytes w ↦
-          let few = subst (AtMost (c.args.n - l.done)) w.in-Bytes.is c.write_from-t.ensures in
-          record {
-            some = omega (arith, few, w.done-is);
-            taken = subst (Leaves bs) (sym w.done-is) (leaves_less bs l.done l.invariant.taken w.in-Bytes.k);
-          }
-      | in-Interrupted w ↦ record {
-        some = omega (arith, w.done-is);
-        taken = subst (Leaves bs) (sym w.done-is) (leaves_same bs l.done l.invariant.taken);
-      }
+pub returns-in-Err-Failed : goal.returns-in-Err-Failed
+returns-in-Err-Failed g c = sent_not c.args.out.now c.loop.rest.now c.loop.invariant
+
+pub loop-preserved : goal.loop-preserved
+loop-preserved g c =
+    let bs = c.args.out.now in
+    let l = c.loop in
+    elim c.match-write_some.branch [
+      | in-Ok w ↦
+          leaves_less bs l.rest.now l.invariant w.in-Ok.k c.match-write_some.rest.now
+          (ap (λ r. r.now) w.rest-is ∙ take_all _ _ (omega (arith, length-drop w.in-Ok.k l.rest.now)))
+      | in-Err-Interrupted w ↦ subst (λ r. Leaves bs r.now) (sym w.rest-is) (leaves_same bs l.rest.now l.invariant)
     ]
 
-pub returns : goal.returns
-returns g c =
-    let l = c.loop-done in
-    sent_all (take c.args.n c.args.out.now) l.done l.invariant.taken c.args.n
-    (length-take-le c.args.n c.args.out.now c.requires) l.invariant.some
+pub returns-then-is_empty-2 : goal.returns-then-is_empty-2
+returns-then-is_empty-2 g c = sent_so c.args.out.now c.loop.rest.now c.loop.invariant true (sym (eq-eqb _ 0 (search rules)))
+
+pub returns-else-is_empty-2 : goal.returns-else-is_empty-2
+returns-else-is_empty-2 g c = sent_so c.args.out.now c.loop.rest.now c.loop.invariant false (sym (ne_eqb _ 0 (search rules)))
