@@ -7,7 +7,7 @@ use mathlib.Core.List.{◌++◌}
 use lib.ListN.{length, take, drop, length-append, length-drop}
 use Rattle.std.proofs.lemmas.List.{length-take-le}
 use Rattle.snapshot.specs.Values.{words_in, lasts_in}
-use Rattle.days.specs.Asking.{lent_to, asked_outcome, asked_table, asked_page}
+use Rattle.days.specs.Asking.{request_of, asked_outcome, asked_table, asked_page}
 use Rattle.days.proofs.Kept.{lent_to_le}
 use Rattle.daytext.specs.Buffer.{laid_place, laid_text}
 use Rattle.dayfile.specs.declared.Reading.{Reading}
@@ -19,12 +19,12 @@ use Rattle.laps.proofs.records.run.Goals as goal
 
 pub slice_bounds-table-end : goal.slice_bounds-table-end
 slice_bounds-table-end c =
-    let few = subst (λ k. k ≤ 8) (sym c.lent_to-n.ensures) (lent_to_le c.loop-x.progress.day c.request_of.result) in
+    let few = subst (λ k. k ≤ 8) (sym c.lent_to-n.ensures) (lent_to_le c.loop-x.progress.day (request_of c.next_of-x.result)) in
     omega (arith, few)
 
 pub slice_bounds-asked-end : goal.slice_bounds-asked-end
 slice_bounds-asked-end c =
-    let few = subst (λ k. k ≤ 8) (sym c.lent_to-n.ensures) (lent_to_le c.loop-x.progress.day c.request_of.result) in
+    let few = subst (λ k. k ≤ 8) (sym c.lent_to-n.ensures) (lent_to_le c.loop-x.progress.day (request_of c.next_of-x.result)) in
     sym (length-take-le c.lent_to-n.result c.loop-x.table (omega (arith, few)))
 
 -- what a turn reads, asks and comes to
@@ -39,7 +39,7 @@ module _ (c : goal.After-slice_known-in-loop-x-2-1) where
   going = sym c.can_go.ensures ∙ c.loop-x-test.true
 
   lent : c.lent_to-n.result ≡ lap_lent turn x
-  lent = c.lent_to-n.ensures ∙ ap (lent_to turn.progress.day) c.request_of.ensures
+  lent = c.lent_to-n.ensures
 
   outcome : c.asked-o.result ≡ lap_outcome turn x
   outcome = c.asked-o.ensures.value ∙ ap (λ k. asked_outcome turn.progress.day (take k turn.table) turn.page x) lent
@@ -78,7 +78,7 @@ loop-x-preserved c =
     } in
     let same : new ≡ next_turn t (x c) =
     λ i. record { progress = past c i; table = records i ++ drop (n i) l.table; page = page c i; out = out i } in
-    let few = subst (λ k. k ≤ 8) (sym c.lent_to-n.ensures) (lent_to_le l.progress.day c.request_of.result) in
+    let few = subst (λ k. k ≤ 8) (sym c.lent_to-n.ensures) (lent_to_le l.progress.day (request_of (x c))) in
     let front = c.asked-o.auto.ps ∙ length-take-le c.lent_to-n.result l.table (omega (arith, few)) in
     let ready = subst (λ q. CanLay q (length bytes) (length l.out) (length l.page)) (sym (past c))
     (lap_ready t (x c) l.invariant.0 (going c) c.next_of-x.ensures.1) in (
