@@ -73,7 +73,7 @@ fn decide(w: &mut [u32; 369], a: Access, r: Register, k: Task) -> Find
     let p = packed::record_in(w);
     let f = finds::find_page(a, r, p);
     if tasks::ends(k, f) {
-        begin(w, a, tasks::idle());
+        begin(w, a, Task::Idle);
         return f;
     }
     packed_stores::lay_record(w, records::read(a, r, k, f, p));
@@ -102,6 +102,6 @@ pub fn write(w: &mut [u32; 369], a: Access, k: Task)
         packed_over w.old (state_by a zero_register (unpack_record w.old) (nothing_found 0) k) }
 {
     let own = records::written_over(a, k, packed::own_in(w), packed::view_in(w));
-    begin(w, a, tasks::idle());
+    begin(w, a, Task::Idle);
     packed_stores::lay_own(w, own);
 }

@@ -41,7 +41,8 @@ access_of day k = record { n = day.count; now = day.event + 1; pos = next_positi
 unfoldable pub call_access : Day → Access
 call_access day = record { n = day.count; now = day.event + 1; pos = 0 }
 
--- an access of 1 to 8 processes, within its double collect
+-- an access of 1 to 8 processes, within its double collect. It stays a clause, and no ghost field of `Access`: `access_of` is the access
+-- of any day and task (`turn_is_steps`, `found_at`), and with the fact in the type it would ask for `Admits`, so these would too
 pub record Sound (a : Access) : Type 0 where
   pub some : 0 < a.n
   pub small : a.n ≤ 8

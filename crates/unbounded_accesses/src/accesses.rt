@@ -13,16 +13,7 @@ use unbounded::Task;
 pub fn is_ready(k: Task) -> bool
     ensures { result ≡ is_ready k }
 {
-    match k {
-        Task::Idle => false,
-        Task::Scan { turns: _ } => false,
-        Task::Update { word: _, turns: _ } => false,
-        Task::Ready {
-            word: _,
-            at: _,
-            turns: _,
-        } => true,
-    }
+    matches!(k, Task::Ready { .. })
 }
 
 // t reduced modulo s, where s goes into t at most once.
@@ -48,24 +39,20 @@ fn position_of(n: usize, t: u32) -> usize
 }
 
 // Where the next read of a task stands in its double collect.
+#[tactic(auto, using(unbounded::proofs::Reading::position_low))]
 fn next_position(n: usize, k: Task) -> usize
     requires { (0 < n) × (n ≤ 8) × (overdue (most_reads n) k ≡ false) }
     ensures value { result ≡ next_position n k }
     ensures upper_bound { result < 2 * n }
 {
     match k {
-        Task::Idle => 0,
-        Task::Scan { turns } => position_of(n, turns),
-        Task::Update { word: _, turns } => position_of(n, turns),
-        Task::Ready {
-            word: _,
-            at: _,
-            turns: _,
-        } => 0,
+        Task::Scan { turns } | Task::Update { turns, .. } => position_of(n, turns),
+        Task::Idle | Task::Ready { .. } => 0,
     }
 }
 
 // What the next turn of a task goes by.
+#[tactic(auto, unfolding(crate::specs::Accesses::access_of))]
 pub fn access_of(day: Day, k: Task) -> Access
     requires { Admits day k }
     ensures value { result ≡ access_of day k }
@@ -80,6 +67,7 @@ pub fn access_of(day: Day, k: Task) -> Access
 }
 
 // The place of a turn's read in its collect, which is the record that it reads.
+#[tactic(auto, unfolding(unbounded::specs::Turns::place_at))]
 pub fn place_of(a: Access) -> usize
     requires { Sound a }
     ensures value { result ≡ reads_in a }
@@ -88,13 +76,12 @@ pub fn place_of(a: Access) -> usize
     if a.pos < a.n { a.pos } else { a.pos - a.n }
 }
 
-// What a call goes by.
+// What a call goes by: what a turn that reads no register does.
+#[tactic(auto, unfolding(crate::specs::Accesses::access_of, crate::specs::Accesses::call_access))]
 pub fn call_access(day: Day) -> Access
     requires { Admits day Idle }
     ensures value { result ≡ call_access day }
     ensures sound { Sound result }
 {
-    let n = day.count as usize;
-    let now = day.event + 1;
-    Access { n, now, pos: 0 }
+    access_of(day, Task::Idle)
 }

@@ -1,6 +1,5 @@
 // Tasks: which a call sets, what a turn makes of one, and what it answers.
 ghost use Rattle.std.specs.Prelude.{◌≡◌, ◌<◌};
-ghost use Rattle.unbounded.specs.declared.Task.TheVariants.{Idle};
 ghost use Rattle.unbounded.specs.Processes.{is_idle, turns_of};
 ghost use Rattle.unbounded_tasks.specs.Tasks.{task_for, keeps_by, ends_by, task_by, answer_by};
 
@@ -20,14 +19,7 @@ pub fn task_for(x: Request) -> Task
     }
 }
 
-// No task.
-pub fn idle() -> Task
-    ensures { result ≡ Idle }
-{
-    Task::Idle
-}
-
-// Whether it is none.
+// Whether it is no task.
 pub fn is_idle(k: Task) -> bool
     ensures { result ≡ is_idle k }
 {

@@ -4,7 +4,7 @@ use mathlib.Core.Path.{◌≡◌, sym, ap, ◌∙◌}
 use lib.ListN.{length}
 use lib.Seq.{sets}
 use Rattle.unbounded_finds.specs.Finds.{find_of}
-use Rattle.unbounded_turns.specs.Steps.{with_task, begun_by, state_by}
+use Rattle.unbounded_turns.specs.Steps.{with_task, state_by}
 use Rattle.unbounded_turns.proofs.Steps.{state_went_on}
 use Rattle.packed.specs.Packing.{pack_task, packed_over, unpack_record}
 use Rattle.packed_turns.proofs.Laid.{task_laid}
@@ -22,7 +22,6 @@ returns-then-ends c =
     record {
       value = found;
       w_after = c.begin.ensures
-          ∙ ap (λ k. packed_over ws (begun_by x.a k p)) c.idle.ensures
           ∙ ap (packed_over ws) (scan_ends x.a x.r p f x.k c.requires.2 ended)
           ∙ ap (λ f. packed_over ws (state_by x.a x.r p f x.k)) found;
     }

@@ -21,9 +21,8 @@ returns c =
     let own = c.written_over-own in
     let view = c.view_in.ensures in
     let old = c.own_in.ensures in
-    let begun = c.begin.ensures ∙ ap (λ k. packed_over ws (begun_by x.a k p)) c.idle.ensures in
     c.lay_own.ensures.w_after
-    ∙ ap (λ l. sets l 0 (pack_register own.result)) begun
+    ∙ ap (λ l. sets l 0 (pack_register own.result)) c.begin.ensures
     ∙ own_laid ws (begun_by x.a Idle p) own.result refl c.lay_own.ensures.view_len
     ∙ ap (λ r. packed_over ws (with_register r (begun_by x.a Idle p)))
     (own.ensures ∙ (λ i. written_over x.a (old i) (view i) x.k))
