@@ -103,7 +103,7 @@ fn gather<M: Write>(
     }
     let end = i.end;
     let g = gathering::gather(&bytes[..end], answers, q.count);
-    messages::ended_by(label, g.refusal, messages);
+    messages::ended_by(label, g.refusal.map_or(0, u32::from), messages);
     Quarter {
         count: g.count,
         whole: q.whole,
