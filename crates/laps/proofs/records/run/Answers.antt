@@ -6,7 +6,7 @@ use mathlib.Core.List.{◌++◌}
 use lib.ListN.{length, take, drop, length-append, length-drop}
 use Rattle.std.proofs.lemmas.List.{length-take-le}
 use Rattle.snapshot.specs.Values.{words_in, lasts_in}
-use Rattle.days.specs.Asking.{lent_to, asked_outcome, asked_table, asked_page}
+use Rattle.days.specs.Asking.{request_of, asked_outcome, asked_table, asked_page}
 use Rattle.days.proofs.Kept.{lent_to_le}
 use Rattle.daytext.specs.Buffer.{laid_place, laid_text}
 use Rattle.daylines.specs.Printed.{line_of}
@@ -17,12 +17,12 @@ use Rattle.laps.proofs.records.run.Goals as goal
 
 pub slice_bounds-table-end : goal.slice_bounds-table-end
 slice_bounds-table-end c =
-    let few = subst (λ k. k ≤ 8) (sym c.lent_to-n.ensures) (lent_to_le c.loop-x.progress.day c.request_of.result) in
+    let few = subst (λ k. k ≤ 8) (sym c.lent_to-n.ensures) (lent_to_le c.loop-x.progress.day (request_of c.next_of-x.result)) in
     omega (arith, few)
 
 pub slice_bounds-asked-end : goal.slice_bounds-asked-end
 slice_bounds-asked-end c =
-    let few = subst (λ k. k ≤ 8) (sym c.lent_to-n.ensures) (lent_to_le c.loop-x.progress.day c.request_of.result) in
+    let few = subst (λ k. k ≤ 8) (sym c.lent_to-n.ensures) (lent_to_le c.loop-x.progress.day (request_of c.next_of-x.result)) in
     sym (length-take-le c.lent_to-n.result c.loop-x.table (omega (arith, few)))
 
 pub loop-x-smaller : goal.loop-x-smaller
@@ -32,7 +32,7 @@ loop-x-smaller c =
     let x = c.next_of-x.result in
     let p = l.progress in
     let go = sym c.can_go.ensures ∙ c.loop-x-test.true in
-    let n = c.lent_to-n.ensures ∙ ap (lent_to p.day) c.request_of.ensures in
+    let n = c.lent_to-n.ensures in
     let o = c.asked-o.ensures.value ∙ ap (λ k. asked_outcome p.day (take k l.table) l.page x) n in
     let page = c.asked-o.ensures.page_after ∙ ap (λ k. asked_page p.day (take k l.table) l.page x) n in
     let past = c.past-progress.ensures.value
@@ -47,7 +47,7 @@ loop-x-preserved c =
     let x = c.next_of-x.result in
     let p = l.progress in
     let go = sym c.can_go.ensures ∙ c.loop-x-test.true in
-    let n = c.lent_to-n.ensures ∙ ap (lent_to p.day) c.request_of.ensures in
+    let n = c.lent_to-n.ensures in
     let o = c.asked-o.ensures.value ∙ ap (λ k. asked_outcome p.day (take k l.table) l.page x) n in
     let page = c.asked-o.ensures.page_after ∙ ap (λ k. asked_page p.day (take k l.table) l.page x) n in
     let past = c.past-progress.ensures.value
@@ -65,7 +65,7 @@ loop-x-preserved c =
     } in
     let same : new ≡ next_turn t x =
     λ i. record { progress = past i; table = records i ++ drop (n i) l.table; page = page i; out = out i } in
-    let few = subst (λ k. k ≤ 8) (sym c.lent_to-n.ensures) (lent_to_le p.day c.request_of.result) in
+    let few = subst (λ k. k ≤ 8) (sym c.lent_to-n.ensures) (lent_to_le p.day (request_of x)) in
     let front = c.asked-o.auto.ps ∙ length-take-le c.lent_to-n.result l.table (omega (arith, few)) in
     let ready = subst (λ q. CanLay q (length c.args.bytes.now) (length l.out) (length l.page)) (sym past)
     (lap_ready t x l.invariant.0 go c.next_of-x.ensures.1) in (
