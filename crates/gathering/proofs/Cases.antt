@@ -2,6 +2,8 @@
 use Prim.Native.Nat.{ℕ, zero, suc}
 use mathlib.Core.Path.{◌≡◌, refl}
 use mathlib.Core.List.{List, [], ◌∷◌, ◌++◌}
+use Rattle.std.specs.Prelude.{Some, None}
+use Rattle.snapshot.specs.declared.Refusal.TheVariants.{CutShort}
 use Rattle.snapshot.specs.Values.{listed}
 use Rattle.snapshot.specs.Demand.{step}
 use Rattle.snapshot.specs.Verdict.{verdict}
@@ -46,11 +48,11 @@ case_b =
 abbrev answer : ℕ → ℕ → ℕ → PageAnswer
 answer n lender turns = record { processes = n; lender = lender; turns = turns }
 
--- those of three files, in order, and the numbers that ended them
+-- those of three files, in order, and the refusals that ended them
 pub cases :
     (quarter_of (cut_short ∷ [] ∷ case_b ∷ []) ≡ answer 1 0 2 ∷ answer 1 0 2 ∷ answer 2 2 8 ∷ [])
-    × (ended_by (day_of cut_short) ≡ 7)
-    × (ended_by (day_of []) ≡ 0)
-    × (ended_by (day_of case_b) ≡ 0)
+    × (ended_by (day_of cut_short) ≡ Some CutShort)
+    × (ended_by (day_of []) ≡ None)
+    × (ended_by (day_of case_b) ≡ None)
 unfolding day_of readings readings_up_to reading record_of length_of lent_to Days.stepped step verdict laid read_into cleared page_of differs is_moved with_moved lends begin position place_at first_after second_after end_after decision marks_after after_read found_by written turned most_reads is_past unsound refusal advance opened_by called_by turn_by accept listed
 cases = (refl, refl, refl, refl)

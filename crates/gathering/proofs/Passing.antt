@@ -7,6 +7,8 @@ use mathlib.Core.Bool.{true, false, cond}
 use mathlib.Core.List.{List, [], ◌∷◌, ◌++◌}
 use lib.ListN.{length, drop, length-drop}
 use lib.Seq.{drop-drop}
+use Rattle.std.specs.Prelude.{Option}
+use Rattle.snapshot.specs.declared.Refusal.{Refusal}
 use Rattle.snapshot.specs.declared.Outcome.{Outcome}
 use Rattle.dayfile.specs.Reader.{reading}
 use Rattle.dayfile.specs.declared.Reading.{Reading}
@@ -31,7 +33,7 @@ rest_of s t page bytes = cond s.ended [] (file_on (box_in s.day t page) (drop s.
 abbrev pub gathers_from : Progress → List (List ℕ) → (page : List ℕ) → (rows : List (List ℕ)) → (bytes : List ℕ) → Gathered
 gathers_from s t page rows bytes = sums_with_all (gathered rows s.count) (answers_in (rest_of s t page bytes))
 
-abbrev pub ends_from : Progress → List (List ℕ) → (page bytes : List ℕ) → ℕ
+abbrev pub ends_from : Progress → List (List ℕ) → (page bytes : List ℕ) → Option Refusal
 ends_from s t page bytes = cond s.ended s.refusal (ended_by (rest_of s t page bytes))
 
 -- a number of laps that are left at most

@@ -1,6 +1,6 @@
 -- The page answers of day files (document 02, K5: "over many days' page answers").
-use Rattle.std.specs.Prelude.{ℕ, List, [], ◌∷◌, ◌++◌}
-use Rattle.snapshot.specs.Refusals.{number_of}
+use Rattle.std.specs.Prelude.{ℕ, Option, Some, None, List, [], ◌∷◌, ◌++◌}
+use Rattle.snapshot.specs.declared.Refusal.{Refusal}
 use Rattle.snapshot.specs.declared.Answer.{Answer}
 use Rattle.snapshot.specs.declared.Answer.TheVariants.{Refused, Opened, Called, Read, Page, Written}
 use Rattle.dayfile.specs.declared.Reading.{Reading}
@@ -29,13 +29,13 @@ quarter_of (file ∷ files) = answers_in (day_of file) ++ quarter_of files
 
 -- ---- how a file ends
 
--- the number of the refusal that x is, or what follows it
-abbrev pub ended_at : Reading → ℕ → ℕ
+-- the refusal that x is, or what follows it
+abbrev pub ended_at : Reading → Option Refusal → Option Refusal
 ended_at (Found r next) rest = rest
-ended_at End rest = 0
-ended_at (Broken k) rest = number_of k
+ended_at End rest = None
+ended_at (Broken k) rest = Some k
 
--- the number of the refusal that ended a file (7, 8 or 9), or 0
-abbrev pub ended_by : List Happening → ℕ
-ended_by [] = 0
+-- the refusal that ended a file (7, 8 or 9), if one did
+abbrev pub ended_by : List Happening → Option Refusal
+ended_by [] = None
 ended_by (h ∷ hs) = ended_at h.reading (ended_by hs)

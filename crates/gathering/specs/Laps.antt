@@ -1,6 +1,5 @@
 -- How the code gathers: a record at a time.
-use Rattle.std.specs.Prelude.{ℕ, ◌+◌, ◌^◌, ◌<◌, ◌≡◌, true, false, List, drop}
-use Rattle.snapshot.specs.Refusals.{number_of}
+use Rattle.std.specs.Prelude.{ℕ, ◌+◌, ◌^◌, ◌<◌, ◌≡◌, true, false, Some, None, List, drop}
 use Rattle.snapshot.specs.Requests.{blank_day}
 use Rattle.snapshot.specs.declared.Day.{Day}
 use Rattle.snapshot.specs.declared.Outcome.{Outcome}
@@ -18,7 +17,7 @@ abbrev pub gathered : List (List ℕ) → ℕ → Gathered
 gathered rows count = record { rows = rows; count = count }
 
 abbrev pub blank_progress : ℕ → Progress
-blank_progress count = record { day = blank_day; at = 0; ended = false; refusal = 0; count = count }
+blank_progress count = record { day = blank_day; at = 0; ended = false; refusal = None; count = count }
 
 -- the place behind a record that was found can be counted
 abbrev pub Reaches : Reading → ℕ → Type 0
@@ -26,9 +25,9 @@ Reaches x at = (r : Request) (k : ℕ) → x ≡ Found r k → at + k < 2 ^ 64
 
 -- the progress once what was read has happened, which left a day and a count of answers; a refusal of the reader ends the file
 unfoldable pub progress_past : Progress → Reading → Day → ℕ → Progress
-progress_past s (Found r next) d count = record { day = d; at = s.at + next; ended = false; refusal = 0; count = count }
-progress_past s End d count = record { day = d; at = s.at; ended = true; refusal = 0; count = count }
-progress_past s (Refused k) d count = record { day = d; at = s.at; ended = true; refusal = number_of k; count = count }
+progress_past s (Found r next) d count = record { day = d; at = s.at + next; ended = false; refusal = None; count = count }
+progress_past s End d count = record { day = d; at = s.at; ended = true; refusal = None; count = count }
+progress_past s (Refused k) d count = record { day = d; at = s.at; ended = true; refusal = Some k; count = count }
 
 -- what stands next in the file was read, asked of the box, and its answer gathered
 pub record IsLap (s : Progress) (bytes : List ℕ) (t : List (List ℕ)) (page : List ℕ) (rows : List (List ℕ)) (s' : Progress)

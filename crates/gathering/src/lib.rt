@@ -11,23 +11,23 @@ ghost use Rattle.gathering.specs.Gathered.{sums_with_all};
 ghost use Rattle.gathering.specs.Laps.{gathered, blank_progress, Reaches, progress_past, IsLap};
 
 use dayfile::Reading;
-use snapshot::{Answer, Day, Outcome};
+use snapshot::{Answer, Day, Outcome, Refusal};
 
-// How many places of a list hold answers, and the number of the refusal that ended the file, or 0.
-#[derive(Clone, Copy)]
+// How many places of a list hold answers, and the refusal that ended the file, if one did.
+#[derive(Clone, Copy, Debug, PartialEq, Eq)]
 pub struct Gathering {
     pub count: usize,
-    pub refusal: u32,
+    pub refusal: Option<Refusal>,
 }
 
-// How far a file has come: the day, the place of the next record, whether all is done and by which refusal, and how many answers are
+// How far a file has come: the day, the place of the next record, whether all is done, the refusal that ended it, if one did, and how many answers are
 // gathered.
-#[derive(Clone, Copy)]
+#[derive(Clone, Copy, Debug, PartialEq, Eq)]
 pub struct Progress {
     pub day: Day,
     pub at: usize,
     pub ended: bool,
-    pub refusal: u32,
+    pub refusal: Option<Refusal>,
     pub count: usize,
 }
 
@@ -39,7 +39,7 @@ fn start(count: usize) -> Progress
         day: snapshot::blank(),
         at: 0,
         ended: false,
-        refusal: 0,
+        refusal: None,
         count,
     }
 }
@@ -49,20 +49,13 @@ fn put(o: Outcome, count: usize, answers: &mut [[u32; 3]]) -> usize
     ensures { gathered answers.new result ≡
         sums_with_all (gathered answers.old count) (page_answers o.day.count o.answer) }
 {
-    let day = o.day;
-    let answer = o.answer;
-    let Answer::Page {
-        lender,
-        at: _,
-        turns,
-    } = answer
-    else {
+    let Answer::Page { lender, turns, .. } = o.answer else {
         return count;
     };
     if answers.len() <= count {
         return count;
     }
-    answers[count] = [day.count, lender, turns];
+    answers[count] = [o.day.count, lender, turns];
     count + 1
 }
 
@@ -71,27 +64,23 @@ fn past(s: Progress, x: Reading, day: Day, count: usize) -> Progress
     requires { Reaches x s.at }
     ensures { result ≡ progress_past s x day count }
 {
+    let here = Progress { day, count, ..s };
     match x {
         Reading::Found { record: _, next } => Progress {
-            day,
             at: s.at + next,
             ended: false,
-            refusal: 0,
-            count,
+            refusal: None,
+            ..here
         },
         Reading::End => Progress {
-            day,
-            at: s.at,
             ended: true,
-            refusal: 0,
-            count,
+            refusal: None,
+            ..here
         },
         Reading::Refused(k) => Progress {
-            day,
-            at: s.at,
             ended: true,
-            refusal: snapshot::number(k),
-            count,
+            refusal: Some(k),
+            ..here
         },
     }
 }
@@ -108,10 +97,8 @@ fn lap(
     ensures { IsLap s bytes.now t.old page.old answers.old
         result t.new page.new answers.new }
 {
-    let at = s.at;
-    let x = dayfile::read(&bytes[at..]);
-    let day = s.day;
-    let o = packed_days::asked(day, t, x, page);
+    let x = dayfile::read(&bytes[s.at..]);
+    let o = packed_days::asked(s.day, t, x, page);
     let count = put(o, s.count, answers);
     past(s, x, o.day, count)
 }

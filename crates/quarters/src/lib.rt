@@ -89,7 +89,9 @@ fn gather<M: Write>(
         }
         State::Ended => {
             let g = gathering::gather(&bytes[..i.end], answers, count.unwrap_or(0));
-            messages::ended_by(label, g.refusal, messages);
+            if let Some(refusal) = g.refusal {
+                messages::ended_by(label, refusal, messages);
+            }
             count.and(Some(g.count))
         }
     }

@@ -1,4 +1,5 @@
 // What is told among the messages, which are a program's standard error.
+use snapshot::Refusal;
 use std::io::{IsTerminal, Write};
 
 // The bytes of a label before the name.
@@ -31,14 +32,12 @@ pub fn too_long<M: Write>(label: Label, messages: &mut M) {
     tell(label, b" has more than 2097152 bytes\n", messages);
 }
 
-// A file's records ended with a refusal, if that is not 0: what stands behind that place is not in the figures.
-pub fn ended_by<M: Write>(label: Label, refusal: u32, messages: &mut M) {
-    if refusal == 0 {
-        return;
-    }
+// A file's records ended with a refusal: what stands behind that place is not in the figures.
+pub fn ended_by<M: Write>(label: Label, refusal: Refusal, messages: &mut M) {
+    let number = u32::from(refusal);
     tell(label, b": refused ", messages);
     let _ = writeln!(
         messages,
-        "{refusal}, and nothing after that is in the figures"
+        "{number}, and nothing after that is in the figures"
     );
 }

@@ -20,5 +20,4 @@ pub returns-in-Refused : goal.returns-in-Refused
 unfolding progress_past
 returns-in-Refused c =
     let a = c.args in
-    ap (λ k. record { day = a.day; at = a.s.at; ended = true; refusal = k; count = a.count }) c.number.ensures
-    ∙ sym (ap (λ x. progress_past a.s x a.day a.count) c.in-Refused.is)
+    sym (ap (λ x. progress_past a.s x a.day a.count) c.in-Refused.is)
