@@ -8,7 +8,7 @@ use mathlib.Core.Logic.{by_cases}
 use mathlib.Core.Bool.{Bool, true, false, true≢false}
 use mathlib.Core.List.{List, [], ◌∷◌, ◌++◌, map}
 use lib.ListN.{length, take, drop, length-map, drop_of_length-le}
-use lib.Seq.{sets, length-sets, take_at}
+use lib.Seq.{sets, take_at}
 use Rattle.dayfile.specs.Pieces.{pieces_up_to, pieces}
 use Rattle.packed_days.specs.Boxes.{box_in}
 use Rattle.mending.specs.Mending.{Part, judged, kept_of, Drop, drops_of}
@@ -17,7 +17,7 @@ use Rattle.mender.specs.Results.{row_of}
 use Rattle.mender.specs.Passes.{stage, IsPassUpTo}
 use Rattle.mender.proofs.Passing.{drops_few}
 use Rattle.mender.proofs.Rooms.{pass_short, front_stored}
-use Rattle.mendlines.specs.DropText.{longest_drop, drop_text, rows_text, drops_text}
+use Rattle.mendlines.specs.DropText.{drop_text, rows_text, drops_text}
 use Rattle.streams.specs.System.{IsSent}
 use Rattle.day_mend.specs.declared.Stand.{Stand}
 use Rattle.day_mend.specs.Runs.{Tells, IsWritten, Writes, over, stops, goes_on, parts_from, IsPassed}

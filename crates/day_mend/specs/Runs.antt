@@ -1,12 +1,12 @@
 -- A run of the program: a whole day file is read, and its parts are handed to two outputs, some at a time. What a read gives and whether a
 -- write is taken is the system's.
-use Rattle.std.specs.Prelude.{ℕ, ◌+◌, ◌*◌, ◌≤◌, ◌<◌, ◌≡◌, Bool, true, false, cond, List, [], ◌++◌, length, drop}
+use Rattle.std.specs.Prelude.{ℕ, ◌+◌, ◌≤◌, ◌<◌, ◌≡◌, Bool, true, false, cond, List, [], ◌++◌, length, drop}
 use Rattle.dayfile.specs.Pieces.{pieces}
 use Rattle.packed_rows.specs.Rows.{LongRows}
 use Rattle.packed_days.specs.Boxes.{box_in}
 use Rattle.mending.specs.Mending.{Part, judged, kept_of, drops_of, parts_of}
 use Rattle.mender.specs.Passes.{bytes_in}
-use Rattle.mendlines.specs.DropText.{drops_text, longest_drop}
+use Rattle.mendlines.specs.DropText.{drops_text}
 use Rattle.streams.specs.declared.input.Input.{Input}
 use Rattle.streams.specs.System.{IsSent}
 use Rattle.streams.specs.Input.{Incoming, incoming, IsWhole}

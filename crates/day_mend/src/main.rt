@@ -80,12 +80,7 @@ fn tell(rt: &HostRuntime, telling: bool, rows: &[[u64; 3]], count: usize, lines:
 }
 
 // Writes what is kept, and tells what is dropped. A drop that cannot be told does not hold up the file.
-fn write_pass(
-    rt: &HostRuntime,
-    s: Progress,
-    telling: bool,
-    buffers: &mut Buffers,
-) -> Writing
+fn write_pass(rt: &HostRuntime, s: Progress, telling: bool, buffers: &mut Buffers) -> Writing
     requires { (s.kept ≤ 10240) × (s.drops ≤ 1024) }
     ensures { IsWritten (take s.kept buffers.old.kept) (rows_text (take s.drops buffers.old.rows)) telling result.went result.told }
 {
@@ -120,7 +115,15 @@ fn pass_on(
         kept: 0,
         drops: 0,
     };
-    let p = mender::pass(from, PIECES, bytes, t, page, &mut buffers.kept, &mut buffers.rows);
+    let p = mender::pass(
+        from,
+        PIECES,
+        bytes,
+        t,
+        page,
+        &mut buffers.kept,
+        &mut buffers.rows,
+    );
     let wrote = write_pass(rt, p, s.wrote.told, buffers);
     Stand {
         day: p.day,

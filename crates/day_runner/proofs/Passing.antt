@@ -1,11 +1,10 @@
 -- One pass, from what the functions that it calls ensure.
-use Prim.Native.Nat.{ℕ, ◌+◌, ◌-◌, ◌*◌, ◌/◌, ◌≤◌}
+use Prim.Native.Nat.{ℕ, ◌+◌, ◌-◌, ◌/◌, ◌≤◌}
 use native.Mathlib.Omega.{arith}
 use mathlib.Core.Path.{◌≡◌, sym, ap, ap₂, subst, ◌∙◌}
 use mathlib.Core.Bool.{Bool, true, false, cond}
 use mathlib.Core.List.{List, [], ◌∷◌, ◌++◌}
 use lib.ListN.{length, take, replicate, length-append}
-use Rattle.daytext.specs.Buffer.{longest}
 use Rattle.unbounded.specs.Processes.{zero_process}
 use Rattle.streams.specs.declared.input.Input.{Input}
 use Rattle.laps.specs.declared.records.Progress.{Progress}

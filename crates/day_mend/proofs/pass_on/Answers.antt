@@ -1,5 +1,5 @@
 -- There is room for what the pass comes to, and it is handed on.
-use Rattle.std.proofs.Common.{◌≡◌, length, arith, rules}
+use Rattle.std.proofs.Common.{rules}
 use Rattle.day_mend.proofs.Passed.{room_enough, passed}
 use Rattle.day_mend.proofs.pass_on.Goals as goal
 
