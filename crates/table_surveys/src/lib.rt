@@ -9,7 +9,7 @@ ghost use Rattle.table_surveys.specs.Surveys.{end_with, waits_by};
 
 // What a look at every record of a table finds, with the limits that it looks by: the most turns of a scan, how many more an update
 // takes, and the event number. `end` is the event number plus all turns that were seen to be owed, not added to once it is past
-// 65,535; `bad` is whether some record cannot have arisen.
+// 65,535; `bad` is whether some record cannot have arisen. Each is found of every table: the one says nothing of the other.
 #[derive(Clone, Copy)]
 pub struct Survey {
     pub scan_most: u16,
