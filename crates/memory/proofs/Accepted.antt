@@ -75,12 +75,6 @@ call_same page (Update d w) c = refl
 call_same page (Scan d) c = refl
 call_same page (Turn d) c = absurd c
 
-pub opening_item : (page : List ℕ) (x : Request) → T (is_opening x) → open_for (number_in x) ≡ item_of page x
-opening_item page (Open k) o = refl
-opening_item page (Update d w) o = absurd o
-opening_item page (Scan d) o = absurd o
-opening_item page (Turn d) o = absurd o
-
 -- the page list after one
 module _ (page : List ℕ) (r : Result (State Process)) where
   pub after_opening : (x : Request) → T (is_opening x) → page ≡ page_after page r x
@@ -143,9 +137,6 @@ module _ (day : Day) (ps : List Process) where
           (ap (first_refusal day (length ps) surveyed x) (length-replicate words 0) ∙ passed)
 
       -- the process is one of the table's
-      pub plan_number : 0 < number_in x
-      plan_number = suits.among.0
-
       pub plan_inside : number_in x - 1 < length ps
       plan_inside = let n = suits.among in let l = suits.size in omega arith
 

@@ -1,5 +1,5 @@
 -- What is found of a table that keeps its records in any form, and what a request leaves of it.
-use Prim.Native.Nat.{ℕ, ◌+◌, ◌-◌}
+use Prim.Native.Nat.{ℕ, ◌-◌}
 use mathlib.Core.Path.{◌≡◌, refl, sym, ap, ◌∙◌}
 use mathlib.Core.Bool.{Bool, true, false, not, cond}
 use mathlib.Core.List.{List, [], ◌∷◌, map, foldl}
@@ -15,9 +15,8 @@ use Rattle.snapshot.specs.declared.Outcome.{Outcome}
 use Rattle.snapshot.specs.declared.Request.{Request}
 use Rattle.snapshot.specs.declared.Request.TheVariants.{Open, Update, Scan, Turn}
 use Rattle.snapshot.specs.declared.Refusal.{Refusal}
-use Rattle.snapshot.specs.declared.Answer.TheVariants.{Page, Read}
 use Rattle.requests.specs.Requests.{item_of, is_opening, is_call}
-use Rattle.admission.specs.Checks.{is_refusal, first_refusal}
+use Rattle.admission.specs.Checks.{first_refusal}
 use Rattle.admission.specs.Outcomes.{refused_outcome, opened_outcome}
 use Rattle.table_surveys.specs.declared.Survey.{Survey}
 use Rattle.unbounded.specs.declared.Process.{Process}
@@ -57,7 +56,7 @@ module _ {R : Type 0} (form : Form R) (t : List R) (x : Request) (r : Result (St
   pub after_accepted : is_refused r.answer ≡ false → left_by form t x r.state.table ≡ table_left form t x r
   after_accepted e = ap (λ b. cond b t (left_by form t x r.state.table)) (sym e)
 
-pub answer_accepted : (f : Find) (k : Task) → is_refused (answer_by f k) ≡ false
+answer_accepted : (f : Find) (k : Task) → is_refused (answer_by f k) ≡ false
 answer_accepted f Tasks.Idle = refl
 answer_accepted f (Tasks.Scan t) =
     elim f.page as (λ p. is_refused (answer_by (record { page = p; passed = f.passed }) (Tasks.Scan t)) ≡ false) [

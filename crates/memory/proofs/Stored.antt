@@ -20,13 +20,12 @@ use Rattle.unbounded.specs.declared.Task.{Task}
 use Rattle.unbounded.specs.Processes.{no_process}
 use Rattle.unbounded_accesses.specs.declared.Access.{Access}
 use Rattle.unbounded.specs.Registers.{zero_register}
-use Rattle.unbounded_accesses.specs.Accesses.{Sound, RoomFor, is_ready, access_of, call_access}
+use Rattle.unbounded_accesses.specs.Accesses.{RoomFor, is_ready, access_of, call_access}
 use Rattle.unbounded_finds.specs.Finds.{nothing_found, page_by}
 use Rattle.unbounded_tasks.specs.Tasks.{task_for, answer_by}
 use Rattle.unbounded_turns.specs.Steps.{begun_by, state_by}
 use Rattle.unbounded_turns.proofs.Steps.{access_count}
 use Rattle.process_records.specs.Forms.{Form, kept, kept_at, stored_at, left_by}
-use Rattle.process_records.specs.Turned.{Turned}
 use Rattle.process_records.proofs.Kept.{kept_long, kept_is, task_is, stored_left}
 use Rattle.memory.specs.Tables.{state_of, outcome_of, refusal_in, accepted_in}
 use Rattle.memory.specs.Turning.{TurnAt, read_at, found_at}
@@ -59,16 +58,6 @@ module _ {R : Type 0} (form : Form R) (day : Day) (t : List R) where
   module _ (i : ℕ) (k : Task) (h : TurnAt day (kept form t) i k) where
     pub turn_inside : i < length t
     turn_inside = let l = h.inside in let long = kept_long form t in omega arith
-
-    pub turned : (a : Access) → Sound a → Turned a k (kept_at form t i)
-    turned a s =
-        let same = kept_is form t i turn_inside in
-        record {
-          sound = s;
-          task = sym (ap (λ p. p.task) same) ∙ h.task;
-          seq = subst (λ p. p.register.seq < 4294967295) same h.seq;
-          turns = h.turns;
-        }
 
     -- the record that it reads is one of the table's
     pub place_inside : (j : ℕ) (a : Access) → a ≡ access_of day k → j < a.n → j < length t

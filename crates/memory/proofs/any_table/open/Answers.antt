@@ -1,7 +1,5 @@
 -- An opening is refused by its check, or leaves a table of blank records.
-use mathlib.Core.Path.{sym, ap, subst, ◌∙◌}
-use mathlib.Core.Bool.{not}
-use lib.Dec.{T}
+use mathlib.Core.Path.{sym, ap, ◌∙◌}
 use Rattle.snapshot.specs.Days.{open_for}
 use Rattle.snapshot.specs.declared.Request.TheVariants.{Open}
 use Rattle.admission.specs.Checks.{as_option, opening_refusal}

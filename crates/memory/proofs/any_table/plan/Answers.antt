@@ -1,9 +1,7 @@
 -- The first refusals are asked with a survey of the whole table, the last with the task of the record.
 use native.Mathlib.Omega.{arith}
-use mathlib.Core.Path.{sym, ap, subst, ◌∙◌}
+use mathlib.Core.Path.{sym, ap, ◌∙◌}
 use mathlib.Core.List.{foldl}
-use mathlib.Core.Bool.{not}
-use lib.Dec.{T}
 use Rattle.admission.specs.Checks.{as_option, last_refusal}
 use Rattle.std.proofs.lemmas.Result.{err_from_is_err_and}
 use Rattle.unbounded.specs.Processes.{is_idle}
