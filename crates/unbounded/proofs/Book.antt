@@ -1,5 +1,5 @@
--- The book of Figure 3's method (`items-booked`): every n from 1 to 8, every list of items on a day just opened. Its run begins with zeros
--- and nobody waiting (`items-begin`), and every action's address is its own process (`items-single-writer`).
+-- The book of Figure 3's method (`items_booked`): every n from 1 to 8, every list of items on a day just opened. Its run begins with zeros
+-- and nobody waiting (`items_begin`), and every action's address is its own process (`items_single_writer`).
 use Prim.Native.Nat.{ℕ, ◌≤◌, ◌<◌}
 use mathlib.Core.Path.{◌≡◌, refl, sym, subst}
 use mathlib.Core.List.{List, [], ◌∷◌}

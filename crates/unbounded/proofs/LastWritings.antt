@@ -1,5 +1,5 @@
 -- Every page of Figure 3's method shows of each register its last writing at or before the page's instant, with its number
--- (`items-show-last`): every n from 1 to 8, every list of items on a day just opened.
+-- (`items_show_last`): every n from 1 to 8, every list of items on a day just opened.
 use Prim.Native.Nat.{ℕ, ◌≤◌, ◌<◌}
 use mathlib.Core.List.{List, []}
 use Rattle.snapshot.specs.Values.{zero_value}
