@@ -1,6 +1,6 @@
 -- K1's claims of a day file, with the records before its opening: its book holds its finished operations, each once and in order,
 -- every page in it shows the last words written above it, and with its calls and answers it is a run of the canonical automaton,
--- from zeros and nobody waiting (`day-booked`), in which every address is its own process (`day-single-writer`).
+-- from zeros and nobody waiting (`day_booked`), in which every address is its own process (`day_single_writer`).
 use Prim.Native.Nat.{ℕ}
 use mathlib.Core.Path.{◌≡◌, refl, sym, subst}
 use mathlib.Core.List.{List, [], ◌∷◌, map}

@@ -1,4 +1,4 @@
--- The book of a day file has at most 21,845 operations (`book-fits`): a day has at most 65,535 events, and every finished operation
+-- The book of a day file has at most 21,845 operations (`book_fits`): a day has at most 65,535 events, and every finished operation
 -- has had three of them at least, its call and two turns.
 use Prim.Native.Nat.{ℕ, zero, suc, ◌+◌, ◌-◌, ◌*◌, ◌%◌, ◌≤◌, ◌<◌}
 use native.Mathlib.Omega.{arith}

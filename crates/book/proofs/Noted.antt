@@ -1,4 +1,4 @@
--- What the code notes of a day file is its book (`noted-count`, `noted-book`): a place is put where its operation is placed, and
+-- What the code notes of a day file is its book (`noted_count`, `noted_book`): a place is put where its operation is placed, and
 -- the word kept for a process is that of its open update.
 use Prim.Native.Nat.{ℕ, suc, ◌+◌, ◌-◌, ◌≤◌, ◌<◌}
 use native.Mathlib.Omega.{arith}

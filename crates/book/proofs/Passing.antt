@@ -1,5 +1,5 @@
 -- A pass of the code, one record at a time: what is still to happen in the file, noted from where the code stands, stays what the
--- whole pass notes (`lap-done`), and each lap leaves fewer (`lap-fewer`).
+-- whole pass notes (`lap_done`), and each lap leaves fewer (`lap_fewer`).
 use Prim.Native.Nat.{ℕ, suc, ◌+◌, ◌-◌, ◌≤◌, ◌<◌}
 use native.Mathlib.Omega.{arith}
 use mathlib.Core.Path.{◌≡◌, refl, sym, ap, ◌∙◌, subst}

@@ -34,7 +34,7 @@ module _ (file : List ℕ) (places : List (List ℕ)) where
   pub refused_unlaid : (k : Refusal) → booking ≡ Err k → book_of (length places) file ≡ []
   refused_unlaid k = go (ltb (length places) (length os))
     where
-      go : (b : Bool) → cond b (Err RoomShort) (Ok (record { places = length os; processes = processes_in file })) ≡ Err k →
+      go : (b : Bool) → cond {A = Result Booked Refusal} b (Err RoomShort) (Ok (record { places = length os; processes = processes_in file })) ≡ Err k →
           cond b [] (book_text os) ≡ []
       go true q = refl
       go false q = let z : ◌≡◌ {A = ℕ} 0 1 = cc in absurd (omega arith)
@@ -46,7 +46,7 @@ module _ (file : List ℕ) (places : List (List ℕ)) where
     written_laid w is after lies = ap (λ ps. laid_book ps w.places w.processes room) lies ∙ go (ltb (length places) (length os)) refl is
       where
         go : (b : Bool) → ltb (length places) (length os) ≡ b →
-            cond b (Err RoomShort) (Ok (record { places = length os; processes = processes_in file })) ≡ Ok w →
+            cond {A = Result Booked Refusal} b (Err RoomShort) (Ok (record { places = length os; processes = processes_in file })) ≡ Ok w →
             laid_book (cond b places (map place_of os ++ drop (length os) places)) w.places w.processes room ≡ cond b [] (book_text os)
         go true e q = let z : ◌≡◌ {A = ℕ} 0 1 = cc in absurd (omega arith)
         go false e q =

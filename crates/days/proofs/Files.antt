@@ -1,5 +1,5 @@
 -- What happens in a file ends, for every list of bytes and every box: it is what happens first, and then what happens in the rest
--- (`file-unfold`), and nothing else is (`file-only`).
+-- (`file_unfold`), and nothing else is (`file_only`).
 use Prim.Native.Nat.{ℕ, zero, suc, ◌<◌}
 use native.Mathlib.Omega.{arith}
 use native.Mathlib.Nat.{not-suc-le-zero, le_refl}

@@ -1,4 +1,4 @@
--- Every file is mended as is claimed (`day-mended`), and one that runs without refusal stays as it is (`whole-kept`).
+-- Every file is mended as is claimed (`day_mended`), and one that runs without refusal stays as it is (`whole_kept`).
 use Prim.Native.Nat.{ℕ, suc, ◌+◌, ◌<◌}
 use native.Mathlib.Omega.{arith}
 use mathlib.Core.Path.{◌≡◌, refl, sym, ap, ap₂, ◌∙◌, subst}

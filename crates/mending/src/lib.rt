@@ -23,7 +23,7 @@ fn number_of(x: Reading, replied: u32) -> u32
     match x {
         Reading::Found { record: _, next: _ } => replied,
         Reading::End => 0,
-        Reading::Refused(k) => snapshot::number(k),
+        Reading::Refused(k) => u32::from(k),
     }
 }
 

@@ -1,4 +1,4 @@
--- The record after a turn that ends its task: a scan's, which found a page (`scan-ends`), or an update's, which writes (`write-ends`).
+-- The record after a turn that ends its task: a scan's, which found a page (`scan_ends`), or an update's, which writes (`write_ends`).
 use mathlib.Core.Path.{◌≡◌, refl}
 use mathlib.Core.Bool.{true, not, false≢true}
 use lib.Dec.{T}
