@@ -10,7 +10,8 @@ pub struct Fraction {
     pub denominator: u64,
 }
 
-// The greatest common divisor of two numbers, by Euclid's divisions; of 0 and 0 it is 0.
+// The greatest common divisor of two numbers, by Euclid's divisions; of 0 and 0 it is 0. The loop stays a `while`: it counts nothing
+// and runs over nothing, so that no `for` is plainer.
 pub fn gcd(a: u64, b: u64) -> u64
     ensures { result ≡ greatest_divisor a b }
 {

@@ -9,7 +9,8 @@ ghost use Rattle.daytext.specs.Buffer.{laid_place, laid_text};
 use daytext::{LONGEST, Line};
 use texts::Sheet;
 
-// Lays what a line tells, without its line feed.
+// Lays what a line tells, without its line feed. The room is asked for here and for the two lines with a page (`pagetext`), and is in no
+// invariant of the sheet: it shrinks with each text, so that a type that held it would be made anew after each, which is no plainer.
 fn body(line: Line, words: &[u32], lasts: &[u32], sheet: &mut Sheet<'_>)
     requires lasts_len_bound { length words.now + length lasts.now ≤ 16 }
     requires at_in_bounds { HasRoom sheet.old 271 }
