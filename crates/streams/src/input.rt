@@ -15,6 +15,7 @@ pub enum State {
     Broken,
 }
 
+// Places, and no slice of the bytes: `refill` moves what is left, for which nothing of them may be lent.
 #[derive(Clone, Copy)]
 pub struct Input {
     pub at: usize,

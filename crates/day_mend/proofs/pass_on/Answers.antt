@@ -1,5 +1,5 @@
 -- There is room for what the pass comes to, and it is handed on.
-use Rattle.std.proofs.Common.{rules}
+use Rattle.std.proofs.Common.{rules, arith}
 use Rattle.day_mend.proofs.Passed.{room_enough, passed}
 use Rattle.day_mend.proofs.pass_on.Goals as goal
 
@@ -7,8 +7,9 @@ pub write_pass-wrote-requires : goal.write_pass-wrote-requires
 write_pass-wrote-requires c =
     let a = c.args in
     let b = a.buffers.now in
-    room_enough a.bytes.now a.s a.t.now a.page.now b.kept b.rows c.pass-p.result _ _ _ _ c.requires.more
-    c.pass-p.ensures (search rules) (search rules)
+    let e = room_enough a.bytes.now a.s a.t.now a.page.now b.kept b.rows c.pass-p.result _ _ _ _ c.requires.more
+    c.pass-p.ensures (search rules) (search rules) in
+    (omega (arith, e.0), omega (arith, e.1))
 
 pub returns : goal.returns
 returns c =
