@@ -1,20 +1,21 @@
 // The day after a request, and its answer. A refusal leaves the day; an accepted call or turn adds one event, and its caller
 // shows that there is room for it.
 ghost use Rattle.std.specs.Prelude.{◌<◌, ◌≡◌};
-ghost use Rattle.std.proofs.Math.Option.{some};
 ghost use Rattle.snapshot.specs.declared.Answer.TheVariants.{Called};
+ghost use Rattle.admission.specs.Checks.{as_option};
 ghost use Rattle.admission.specs.Outcomes.{refused_outcome, accepted_outcome, opened_outcome};
 
 use snapshot::{Answer, Day, Outcome, Refusal};
 
 // The outcome of a request that was refused.
-pub fn refused(day: Day, k: Refusal) -> Outcome
-    ensures { result ≡ refused_outcome day (some k) }
+pub fn refused(day: Day, check: Result<(), Refusal>) -> Outcome
+    ensures { result ≡ refused_outcome day (as_option check) }
 {
-    Outcome {
-        day,
-        answer: Answer::Refused(k),
-    }
+    let answer = match check {
+        Ok(()) => Answer::Read,
+        Err(k) => Answer::Refused(k),
+    };
+    Outcome { day, answer }
 }
 
 // The outcome of an accepted call or turn.

@@ -34,7 +34,7 @@ fn answer_line(x: Request, event: u32, a: Answer) -> Line
     let process = snapshot::number_in(x);
     match a {
         Answer::Refused(k) => Line::Refused {
-            number: snapshot::number(k),
+            number: u32::from(k),
         },
         Answer::Opened => Line::Opened { count: process },
         Answer::Called => call_line(x, event),
@@ -64,7 +64,7 @@ fn line_of(x: Reading, o: Outcome) -> Line
         Reading::Found { record, next: _ } => answer_line(record, day.event, answer),
         Reading::End => Line::End { event: day.event },
         Reading::Refused(k) => Line::Refused {
-            number: snapshot::number(k),
+            number: u32::from(k),
         },
     }
 }

@@ -43,7 +43,7 @@ fn lay_reckoning(desks: u32, reckoning: Result<Figures, Refusal>, sheet: &mut Sh
     match reckoning {
         Ok(f) => lay_figures(desks, f, sheet),
         Err(k) => {
-            let number = snapshot::number(k);
+            let number = u32::from(k);
             laying::lay(Line::Refused { number }, &[], &[], sheet);
         }
     }

@@ -108,7 +108,7 @@ pub fn open<R: Record>(day: Day, t: &mut [R], k: u32) -> Outcome
         table_left R.form t.old (Open k) (stepped (state_of day (kept R.form t.old)) (open_for k)) }
 {
     if let Err(refusal) = checks::opening_check(day, t.len(), k) {
-        return outcomes::refused(day, refusal);
+        return outcomes::refused(day, Err(refusal));
     }
     elements::clear_all(t);
     outcomes::opened(k)
@@ -124,7 +124,7 @@ pub fn step<R: Record>(day: Day, t: &mut [R], x: Request, page: &mut [u32]) -> O
         return open(day, t, snapshot::number_in(x));
     }
     if let Err(refusal) = plan(day, t, x, page.len()) {
-        return outcomes::refused(day, refusal);
+        return outcomes::refused(day, Err(refusal));
     }
     if requests::is_call(x) {
         return call(day, t, x);
@@ -139,7 +139,7 @@ pub fn ask_call<R: Record>(day: Day, t: &mut [R], x: Request) -> Outcome
     ensures t_after { t.new ≡ table_left R.form t.old x (stepped_on R.form day t.old x []) }
 {
     if let Err(refusal) = plan(day, t, x, 0) {
-        return outcomes::refused(day, refusal);
+        return outcomes::refused(day, Err(refusal));
     }
     call(day, t, x)
 }

@@ -71,13 +71,6 @@ impl From<Outcome> for ReplyNumbers {
     }
 }
 
-// The same as a function, for those who have not taken `ReplyNumbers::from` yet.
-pub fn reply_of(o: Outcome) -> ReplyNumbers
-    ensures { result ≡ reply_numbers o.day (reply_of [] o.answer) }
-{
-    ReplyNumbers::from(o)
-}
-
 // The day after a request, by its reply: a reply has a day and is not turned into one, so that a `From` would be no plainer.
 pub fn day_in(r: ReplyNumbers) -> Day
     ensures { result ≡ day_with r.count r.event }
@@ -109,13 +102,6 @@ impl From<ReplyNumbers> for [u32; 7] {
             r.count, r.event, r.answer, r.refusal, r.lender, r.at, r.turns,
         ]
     }
-}
-
-// The same as a function, for those who have not taken `From` yet.
-pub fn words_of(r: ReplyNumbers) -> [u32; 7]
-    ensures { result ≡ reply_words r }
-{
-    <[u32; 7]>::from(r)
 }
 
 // A request by its kind, where there is one of that kind.

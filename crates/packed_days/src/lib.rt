@@ -30,7 +30,7 @@ pub fn replied(day: Day, t: &mut [[u32; 369]], x: Reading, page: &mut [u32]) -> 
     ensures { IsReplied x (box_in day t.old page.old) result t.new page.new }
 {
     let Some(request) = days::request_in(x) else {
-        return numbers::reply_of(days::unasked(day));
+        return ReplyNumbers::from(days::unasked(day));
     };
     let n = days::lent_to(day, x);
     let q = numbers::request_numbers(request, 0);

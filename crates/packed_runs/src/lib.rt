@@ -23,7 +23,7 @@ impl Turns for Numbered {
 
     fn turn(day: Day, t: &mut [[u32; 369]], d: u32, page: &mut [u32]) -> (Day, [u32; 7]) {
         let r = packed_requests::asked(day, t, 4, d, 0, page);
-        (numbers::day_in(r), numbers::words_of(r))
+        (numbers::day_in(r), <[u32; 7]>::from(r))
     }
 }
 

@@ -99,13 +99,6 @@ impl From<Refusal> for u32 {
     }
 }
 
-// The same as a function, for those who have not taken `u32::from` yet.
-pub fn number(r: Refusal) -> u32
-    ensures { result ≡ number_of r }
-{
-    u32::from(r)
-}
-
 // The number of a request's process, or of an opening's processes.
 pub fn number_in(x: Request) -> u32
     ensures { result ≡ number_in x }

@@ -11,4 +11,4 @@ pub returns-in-Err : goal.returns-in-Err
 unfolding reckoning_text
 returns-in-Err c =
     let laid = c.lay.ensures in
-    rw c.in-Err.is (refusal_laid c.requires _ c.number-number.ensures laid.same_buffer laid.value laid.out_after)
+    rw c.in-Err.is (refusal_laid c.requires _ c.from-number.ensures laid.same_buffer laid.value laid.out_after)

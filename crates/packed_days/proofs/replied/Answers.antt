@@ -19,7 +19,7 @@ pub returns-in_default : goal.returns-in_default
 returns-in_default c =
     let a = c.args in
     replied_by (unread_after a.day a.t.now a.page.now c.requires.1 a.x (sym c.request_in.ensures ∙ c.in_default.is) _
-    c.unasked.ensures) _ c.reply_of.ensures
+    c.unasked.ensures) _ c.from.ensures
 
 pub returns : goal.returns
 returns c =
