@@ -10,6 +10,7 @@ use unbounded::Register;
 use values::over_values;
 
 // A register in which every number is 0: what a turn that reads none is given.
+// `Default` would be no plainer: it is the same call, and says less of what the zeros are.
 pub fn no_register() -> Register
     ensures { result ≡ zero_register }
 {
@@ -41,6 +42,7 @@ fn moved_in(a: &[Register], b: &[Register]) -> Option<usize>
 }
 
 // The first of n processes whose seq differs between the two collects, or n.
+// n and not `None` where none differs: `first_below`, by which `verdict` decides, has it so.
 pub fn first_moved(n: usize, a: &[Register; 8], b: &[Register; 8]) -> usize
     requires { n ≤ 8 }
     ensures { result ≡ first_below n (differs ascending a.now b.now) }
