@@ -1,7 +1,6 @@
 -- `gathering::past` meets its contract.
-use mathlib.Core.Path.{sym, ap, ◌∙◌}
+use mathlib.Core.Path.{sym, ap}
 use Rattle.gathering.specs.Laps.{progress_past}
-use mathlib.Core.Bool.{true}
 use Rattle.gathering.proofs.past.Goals as goal
 
 pub returns-in-Found : goal.returns-in-Found
