@@ -34,7 +34,10 @@ impl Number for u32 {
     ghost numeral = { decimal };
 
     fn lay(self, sheet: &mut Sheet<'_>) {
-        sheet.numeral(u64::from(self));
+        if self < 10 {
+            return sheet.byte(b'0' + self as u8);
+        }
+        sheet.numeral(u64::from(self), places(self));
     }
 }
 
@@ -46,8 +49,43 @@ impl Number for u64 {
     ghost numeral = { long_decimal };
 
     fn lay(self, sheet: &mut Sheet<'_>) {
-        sheet.numeral(self);
+        if self < 10 {
+            return sheet.byte(b'0' + self as u8);
+        }
+        sheet.numeral(self, self.ilog10() as usize + 1);
     }
+}
+
+// How many digits n has, where it has more than one. std's `ilog10` was tried: some three instructions a number more.
+fn places(n: u32) -> usize
+    requires { 10 ≤ n }
+    ensures { decimal n ≡ trailing_digits result n }
+{
+    if n < 100 {
+        return 2;
+    }
+    if n < 1000 {
+        return 3;
+    }
+    if n < 10000 {
+        return 4;
+    }
+    if n < 100000 {
+        return 5;
+    }
+    if n < 1000000 {
+        return 6;
+    }
+    if n < 10000000 {
+        return 7;
+    }
+    if n < 100000000 {
+        return 8;
+    }
+    if n < 1000000000 {
+        return 9;
+    }
+    10
 }
 
 // Stores the last k digits of n at `at`, from the right.
@@ -82,16 +120,11 @@ impl<'a> Sheet<'a> {
         }
     }
 
-    // Lays the numeral of n, of whatever width it is.
-    fn numeral(&mut self, n: u64)
-        requires { HasRoom self.old (length (long_decimal n)) }
-        ensures { Lays self.old (long_decimal n) self.new }
+    // Lays the last k digits of n.
+    fn numeral(&mut self, n: u64, k: usize)
+        requires { HasRoom self.old k }
+        ensures { Lays self.old (trailing_digits k n) self.new }
     {
-        if n < 10 {
-            self.byte(b'0' + n as u8);
-            return;
-        }
-        let k = n.ilog10() as usize + 1;
         digits(n, k, self.out, self.at);
         self.at += k;
     }
