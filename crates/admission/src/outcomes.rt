@@ -23,8 +23,8 @@ pub fn accepted(day: Day, answer: Answer) -> Outcome
     ensures { result ≡ accepted_outcome day answer }
 {
     let next = Day {
-        count: day.count,
         event: day.event + 1,
+        ..day
     };
     Outcome { day: next, answer }
 }

@@ -16,7 +16,8 @@ use mender::Mending;
 use numbers::{RecordNumbers, ReplyNumbers};
 use snapshot::Day;
 
-// How many bytes of a mended day file were written and how many drops, or the number of a refusal; 0 where there is none.
+// How many bytes of a mended day file were written and how many drops, or the number of a refusal; 0 where there is none, as the C
+// interface has it.
 #[repr(C)]
 #[derive(Clone, Copy)]
 pub struct MendingNumbers {

@@ -14,7 +14,8 @@ use runs::RunOutcome;
 use snapshot::{Answer, Day, Outcome, Request};
 
 // The day after a request, its answer (0 refused, 1 opened, 2 called, 3 read, 4 page, 5 written, 6 a run), the number of the
-// refusal, the lender and the instant of a page, and the turns of a task.
+// refusal, the lender and the instant of a page, and the turns of a task. The C interface has numbers for kinds, and 0 where there is
+// none.
 #[repr(C)]
 #[derive(Clone, Copy)]
 pub struct ReplyNumbers {
@@ -27,7 +28,7 @@ pub struct ReplyNumbers {
     pub turns: u32,
 }
 
-// A record of a day file: its kind there, its numbers, and how many bytes it takes; or the number of a refusal.
+// A record of a day file: its kind there, its numbers, and how many bytes it takes; or the number of a refusal. Numbers, for C.
 #[repr(C)]
 #[derive(Clone, Copy)]
 pub struct RecordNumbers {
@@ -77,7 +78,7 @@ pub fn reply_of(o: Outcome) -> ReplyNumbers
     ReplyNumbers::from(o)
 }
 
-// The day after a request, by its reply.
+// The day after a request, by its reply: a reply has a day and is not turned into one, so that a `From` would be no plainer.
 pub fn day_in(r: ReplyNumbers) -> Day
     ensures { result ≡ day_with r.count r.event }
 {
@@ -100,12 +101,21 @@ impl From<RunOutcome> for ReplyNumbers {
 }
 
 // The seven numbers of a reply, as they lie in a table.
+impl From<ReplyNumbers> for [u32; 7] {
+    ghost from_gives = { λ r ws. ws ≡ reply_words r };
+
+    fn from(r: ReplyNumbers) -> [u32; 7] {
+        [
+            r.count, r.event, r.answer, r.refusal, r.lender, r.at, r.turns,
+        ]
+    }
+}
+
+// The same as a function, for those who have not taken `From` yet.
 pub fn words_of(r: ReplyNumbers) -> [u32; 7]
     ensures { result ≡ reply_words r }
 {
-    [
-        r.count, r.event, r.answer, r.refusal, r.lender, r.at, r.turns,
-    ]
+    <[u32; 7]>::from(r)
 }
 
 // A request by its kind, where there is one of that kind.

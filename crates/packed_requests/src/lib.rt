@@ -8,7 +8,7 @@ ghost use Rattle.packed_requests.specs.Requests.{reply_in, table_in, page_in};
 use numbers::ReplyNumbers;
 use snapshot::{Day, Refusal};
 
-// A request by its kind: 1 an opening, 2 an entry call, 3 a page call, 4 a turn; and its reply.
+// A request by its kind, a number for C: 1 an opening, 2 an entry call, 3 a page call, 4 a turn; and its reply.
 pub fn asked(
     day: Day,
     table: &mut [[u32; 369]],

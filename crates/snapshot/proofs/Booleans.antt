@@ -1,15 +1,8 @@
--- Laws of booleans: what a test says of its parts.
+-- What a test says of its parts, as std says it, and a case for each of the two values of a boolean.
 use mathlib.Core.Path.{◌≡◌, refl}
-use mathlib.Core.Bool.{Bool, true, false, ◌&&◌, ◌||◌, true≢false, false≢true}
+use mathlib.Core.Bool.{Bool, true, false}
+pub use Rattle.std.proofs.lemmas.Bool.{or_parts as or_neither, and_parts as and_both}
 
 pub bool_cases : {C : Type 0} (b : Bool) → (b ≡ true → C) → (b ≡ false → C) → C
 bool_cases true f g = f refl
 bool_cases false f g = g refl
-
-pub or_neither : (a b : Bool) → (a || b) ≡ false → (a ≡ false) × (b ≡ false)
-or_neither true b h = absurd (true≢false h)
-or_neither false b h = (refl, h)
-
-pub and_both : (a b : Bool) → (a && b) ≡ true → (a ≡ true) × (b ≡ true)
-and_both true b h = (refl, h)
-and_both false b h = absurd (false≢true h)

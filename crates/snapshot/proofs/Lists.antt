@@ -12,6 +12,7 @@ use lib.ListN.{length, get_or, take, drop, set, replicate, length-append, length
 use lib.ListN.{get_or-append}
 use lib.Seq.{take_at, drop_at, take_all, get_or_at, get_or-append-add, get_or-drop, get_or-take, ext_get_or, drop-cons, set_at}
 use lib.Seq.{length-take-le, append_snoc, take-suc, take-take, sets}
+pub use Rattle.std.proofs.lemmas.List.{map-set as map_set, get_or-map as get_d_map_below, take-replicate as take_replicate}
 use Rattle.snapshot.proofs.Booleans.{or_neither}
 use Rattle.snapshot.specs.Lists.{sum_of, over, each_from, each, first_from, first_below, some_of}
 
@@ -95,17 +96,6 @@ list_is_each n z l q =
 
 -- ---- a map, and one place stored
 
-pub map_set : {A B : Type 0} (f : A → B) (l : List A) (i : ℕ) (a : A) → map f (set l i a) ≡ set (map f l) i (f a)
-map_set f [] i a = refl
-map_set f (x ∷ l) zero a = refl
-map_set {B = B} f (x ∷ l) (suc i) a = ap {B = List B} (λ r. f x ∷ r) (map_set f l i a)
-
-pub get_d_map_below : {A B : Type 0} (f : A → B) (l : List A) (i : ℕ) (a : A) (b : B) → i < length l →
-    get_or (map f l) i b ≡ f (get_or l i a)
-get_d_map_below f [] i a b h = absurd (not-suc-le-zero h)
-get_d_map_below f (x ∷ l) zero a b h = refl
-get_d_map_below f (x ∷ l) (suc i) a b h = get_d_map_below f l i a b (omega arith)
-
 pub map_replicate : {A B : Type 0} (f : A → B) (n : ℕ) (a : A) → map f (replicate n a) ≡ replicate n (f a)
 map_replicate f zero a = refl
 map_replicate {B = B} f (suc n) a = ap {B = List B} (λ r. f a ∷ r) (map_replicate f n a)
@@ -113,11 +103,6 @@ map_replicate {B = B} f (suc n) a = ap {B = List B} (λ r. f a ∷ r) (map_repli
 pub map_constant : {A B : Type 0} (b : B) (l : List A) → map (λ a. b) l ≡ replicate (length l) b
 map_constant b [] = refl
 map_constant {B = B} b (x ∷ l) = ap {B = List B} (λ r. b ∷ r) (map_constant b l)
-
-pub take_replicate : {A : Type 0} (n k : ℕ) (a : A) → n ≤ k → take n (replicate k a) ≡ replicate n a
-take_replicate zero k a l = refl
-take_replicate (suc n) zero a l = absurd (not-suc-le-zero l)
-take_replicate {A} (suc n) (suc k) a l = ap {B = List A} (λ r. a ∷ r) (take_replicate n k a (omega arith))
 
 -- a test that fails at every index fails of the list
 pub some_of_none : {A : Type 0} (f : A → Bool) (l : List A) (z : A) → ((i : ℕ) → i < length l → f (get_or l i z) ≡ false) →

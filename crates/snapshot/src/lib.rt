@@ -112,7 +112,7 @@ pub fn number_in(x: Request) -> u32
 {
     match x {
         Request::Open(count) => count,
-        Request::Update { process, word: _ } => process,
+        Request::Update { process, .. } => process,
         Request::Scan(process) => process,
         Request::Turn(process) => process,
     }
