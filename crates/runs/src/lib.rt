@@ -212,6 +212,7 @@ pub fn run<M: Turns>(
         Err(refusal) => return refused(day, refusal),
     };
     let mut at = begin(day);
+    // No `for`: the day and the words go on with the turn, and which comes next is for `next` to say.
     while goes(at, plan) {
         let d = process_at(list, at);
         let (after, told) = turn_at::<M>(at, plan, t, d, pages);
