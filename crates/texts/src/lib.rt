@@ -110,7 +110,7 @@ impl<'a> Sheet<'a> {
         self.at += 1;
     }
 
-    // Lays the bytes of a text, one by one: `copy_from_slice` was tried, and a record of the day runner took 19 instructions more.
+    // Lays the bytes of a text, one by one: `copy_from_slice` was tried, and a record of the day runner took 13 instructions more.
     pub fn bytes(&mut self, text: &[u8])
         requires { HasRoom self.old (length text.now) }
         ensures { Lays self.old text.now self.new }
