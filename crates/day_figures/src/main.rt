@@ -57,7 +57,11 @@ fn run(
     label[..25].copy_from_slice(b"day_figures: cannot read ");
     let gathered = quarters::read_days(rt, n, label, bytes, answers, &mut rt.stderr());
     let end = lay(desks, gathered, answers, out);
-    output::write_out(rt, &out[..end], b"day_figures: cannot write standard output")
+    output::write_out(
+        rt,
+        &out[..end],
+        b"day_figures: cannot write standard output",
+    )
 }
 
 // The run, with room for the longest day file, for more answers than figures are made of, and for the line.

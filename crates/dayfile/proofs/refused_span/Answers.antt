@@ -15,7 +15,7 @@ returns-then-eq c =
     elim c.then-eq.branch [
       | then-eq-via-then-eq w ↦ span_if bytes c.args.k true (w.if-eq.ensures {u = tt})
       | then-eq-via-else-eq+then-left-lt2 w ↦
-      sym (min-eq_right (omega arith)) ∙ span_if bytes c.args.k false (w.if-eq.ensures {u = tt})
+          sym (min-eq_right (omega arith)) ∙ span_if bytes c.args.k false (w.if-eq.ensures {u = tt})
     ]
 
 pub returns : goal.returns
