@@ -7,7 +7,7 @@ ghost use Rattle.admission.specs.Outcomes.{refused_outcome, accepted_outcome, op
 
 use snapshot::{Answer, Day, Outcome, Refusal};
 
-// The outcome of a request that was refused.
+// The outcome of a request that was refused. It takes any check, since a narrower argument would ask more of callers.
 pub fn refused(day: Day, check: Result<(), Refusal>) -> Outcome
     ensures { result ≡ refused_outcome day (as_option check) }
 {

@@ -75,7 +75,7 @@ fn run(s: Notes, bytes: &[u8], book: &mut [[u32; 11]], page: &mut [u32]) -> Note
     let mut notes = s;
     while !notes.ended {
         let x = next_of(notes, bytes);
-        let n = days::lent_to(notes.day, x);
+        let n = days::lent_for(notes.day, x);
         let o = days::asked(notes.day, &mut table[..n], x, page);
         notes = noted(notes, x, o, page, book);
     }

@@ -71,7 +71,7 @@ fn has_room(count: usize, n: usize, places: usize, room: usize) -> bool
 
 // Lays the lines of the first `count` places, with n words a page, and the end from the start of `out` on, and answers how many
 // bytes they take. Where they do not fit, or there are fewer places or more words than that, it lays nothing and answers 0. The count
-// stands beside the places and does not cut them, since more than there are is no fault of the caller's but answered with 0.
+// stands beside the places and does not cut them, since more than there are is no fault of the caller's but answered with 0 (what may not change: `laid_book`).
 pub fn lay_book(book: &[[u32; 11]], count: usize, n: usize, out: &mut [u8]) -> usize
     ensures { Laid out.old 0
         (laid_book book.now count n (length out.old)) out.new result }

@@ -8,8 +8,8 @@ ghost use Rattle.dayfile.specs.Pieces.{span_of};
 
 use snapshot::{Refusal, Request};
 
-// What the reader finds: a record, which is a request, and how many bytes it takes, the ordinary end, or a refusal. These are three
-// cases, so neither an `Option` nor a `Result`.
+// What the reader finds: a record, which is a request, and how many bytes it takes, the ordinary end, or a refusal. An enum of
+// its own, no `Result` of an `Option`: document 01 has the runner take the reader's enum apart, and the contract of `read` speaks of it.
 #[derive(Clone, Copy)]
 pub enum Reading {
     Found { record: Request, next: usize },

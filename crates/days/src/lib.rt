@@ -3,7 +3,7 @@
 #![tactic(auto)]
 
 ghost use Rattle.std.specs.Prelude.{◌≡◌};
-ghost use Rattle.days.specs.Asking.{request_in, request_of, wanted, lent_to, unasked_of, asked_outcome, asked_table, asked_page};
+ghost use Rattle.days.specs.Asking.{is_none, request_in, request_of, wanted, lent_to, unasked_of, asked_outcome, asked_table, asked_page};
 
 use dayfile::Reading;
 use memory::table;
@@ -15,9 +15,27 @@ pub fn request_in(x: Reading) -> Option<Request>
     ensures { result ≡ request_in x }
 {
     match x {
-        Reading::Found { record, next: _ } => Some(record),
+        Reading::Found { record, .. } => Some(record),
         Reading::End => None,
         Reading::Refused(_) => None,
+    }
+}
+
+// Whether none was.
+pub fn is_none(x: Reading) -> bool
+    ensures { result ≡ is_none x }
+{
+    !matches!(x, Reading::Found { .. })
+}
+
+// The request that was found; where none was, one that is not asked.
+pub fn request_of(x: Reading) -> Request
+    ensures { result ≡ request_of x }
+{
+    match x {
+        Reading::Found { record, .. } => record,
+        Reading::End => Request::Turn(0),
+        Reading::Refused(_) => Request::Turn(0),
     }
 }
 
@@ -31,15 +49,18 @@ fn wanted(day: Day, x: Request) -> u32
     }
 }
 
-// How many records of the table are lent to what was read: as many as it wants, and at most eight.
-pub fn lent_to(day: Day, x: Reading) -> usize
+// How many records of the table are lent to a request: as many as it wants, and at most eight.
+pub fn lent_to(day: Day, x: Request) -> usize
+    ensures { result ≡ lent_to day x }
+{
+    wanted(day, x).min(8) as usize
+}
+
+// The same of what was read.
+pub fn lent_for(day: Day, x: Reading) -> usize
     ensures { result ≡ lent_to day (request_of x) }
 {
-    let n = match x {
-        Reading::Found { record, next: _ } => wanted(day, record),
-        _ => day.count,
-    };
-    n.min(8) as usize
+    lent_to(day, request_of(x))
 }
 
 // Nothing is asked: the day stays.

@@ -20,8 +20,8 @@ pub struct Gathering {
     pub refusal: Option<Refusal>,
 }
 
-// How far a file has come: the day, the place of the next record, whether all is done, the refusal that ended it, if one did, and how many answers are
-// gathered.
+// How far a file has come: the day, the place of the next record, whether all is done, the refusal that ended it, if one did, and how
+// many answers are gathered. As one value `ended` and `refusal` would be an option of an option, which is no plainer.
 #[derive(Clone, Copy, Debug, PartialEq, Eq)]
 pub struct Progress {
     pub day: Day,

@@ -181,7 +181,7 @@ pub fn run(r: Running, bytes: &[u8], out: &mut [u8], page: &mut [u32]) -> Runnin
     let mut progress = r.progress;
     while can_go(progress, out.len()) {
         let x = next_of(progress, bytes);
-        let n = days::lent_to(progress.day, x);
+        let n = days::lent_for(progress.day, x);
         let o = days::asked(progress.day, &mut table[..n], x, page);
         progress = past(progress, x, o, page, out);
     }

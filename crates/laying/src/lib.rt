@@ -11,7 +11,7 @@ use texts::Sheet;
 
 // Lays what a line tells, without its line feed. The room is asked for here and for the two lines with a page (`pagetext`), and is in no
 // invariant of the sheet: it shrinks with each text, so that a type that held it would be made anew after each, which is no plainer.
-fn body(line: Line, words: &[u32], lasts: &[u32], sheet: &mut Sheet<'_>)
+pub fn body(line: Line, words: &[u32], lasts: &[u32], sheet: &mut Sheet<'_>)
     requires lasts_len_bound { length words.now + length lasts.now ≤ 16 }
     requires at_in_bounds { HasRoom sheet.old 271 }
     ensures laid { Lays sheet.old (body_of line words.now lasts.now) sheet.new }

@@ -42,7 +42,7 @@ fn plan<R: Record>(day: Day, t: &[R], x: Request, words: usize) -> Result<(), Re
 }
 
 // An accepted call.
-fn call<R: Record>(day: Day, t: &mut [R], x: Request) -> Outcome
+pub fn call<R: Record>(day: Day, t: &mut [R], x: Request) -> Outcome
     requires { T (is_call x) × (refusal_in (state_of day (kept R.form t.old)) (item_of [] x) ≡ none) }
     ensures value { result ≡ outcome_of (accepted_in (state_of day (kept R.form t.old)) (item_of [] x)) }
     ensures t_after { t.new ≡
@@ -84,7 +84,7 @@ fn read_turn<R: Record>(day: Day, t: &mut [R], i: usize, k: Task, page: &mut [u3
 }
 
 // An accepted turn: a ready update writes, any other task reads one register.
-fn turn_on<R: Record>(day: Day, t: &mut [R], x: Request, page: &mut [u32]) -> Outcome
+pub fn turn_on<R: Record>(day: Day, t: &mut [R], x: Request, page: &mut [u32]) -> Outcome
     requires { T (not (is_opening x)) × T (not (is_call x))
         × (refusal_in (state_of day (kept R.form t.old)) (item_of page.old x) ≡ none) }
     ensures value { result ≡ outcome_of (accepted_in (state_of day (kept R.form t.old)) (item_of page.old x)) }
@@ -138,7 +138,7 @@ pub fn ask_call<R: Record>(day: Day, t: &mut [R], x: Request) -> Outcome
     ensures value { result ≡ outcome_of (stepped_on R.form day t.old x []) }
     ensures t_after { t.new ≡ table_left R.form t.old x (stepped_on R.form day t.old x []) }
 {
-    if let Err(refusal) = plan(day, t, x, 0) {
+    if let Err(refusal) = plan(day, t, x, requests::no_words()) {
         return outcomes::refused(day, Err(refusal));
     }
     call(day, t, x)

@@ -2,5 +2,5 @@
 #![tactic(auto)]
 
 pub mod any_table;
-mod elements;
+pub mod elements;
 pub mod table;

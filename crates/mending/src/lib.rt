@@ -8,7 +8,8 @@ ghost use Rattle.mending.specs.Judging.{number_with, HasNext, IsJudged};
 use dayfile::Reading;
 use snapshot::Day;
 
-// A piece that was judged: the day after it, how many bytes it has, and the number of the refusal by which it is dropped, 0 if it is kept.
+// A piece that was judged: the day after it, how many bytes it has, and the number of the refusal by which it is dropped, 0 if it
+// is kept: the number is that of a reply, which crosses to C.
 #[derive(Clone, Copy)]
 pub struct Judged {
     pub day: Day,

@@ -104,16 +104,33 @@ impl From<ReplyNumbers> for [u32; 7] {
     }
 }
 
+// A request by its kind; one of no kind is taken for a turn.
+pub fn request_of(kind: u32, process: u32, word: u32) -> Request
+    ensures { result ≡ request_numbered kind process word }
+{
+    match kind {
+        1 => Request::Open(process),
+        2 => Request::Update { process, word },
+        3 => Request::Scan(process),
+        _ => Request::Turn(process),
+    }
+}
+
+// Whether there is a request of that kind.
+pub fn is_kind(kind: u32) -> bool
+    ensures { result ≡ is_kind kind }
+{
+    matches!(kind, 1..=4)
+}
+
 // A request by its kind, where there is one of that kind.
 pub fn numbered(kind: u32, process: u32, word: u32) -> Option<Request>
     ensures { result ≡ cond (is_kind kind) (Some (request_numbered kind process word)) None }
 {
-    match kind {
-        1 => Some(Request::Open(process)),
-        2 => Some(Request::Update { process, word }),
-        3 => Some(Request::Scan(process)),
-        4 => Some(Request::Turn(process)),
-        _ => None,
+    if is_kind(kind) {
+        Some(request_of(kind, process, word))
+    } else {
+        None
     }
 }
 

@@ -20,7 +20,7 @@ pub fn asked(day: Day, t: &mut [[u32; 369]], x: Reading, page: &mut [u32]) -> Ou
     let Some(request) = days::request_in(x) else {
         return days::unasked(day);
     };
-    let n = days::lent_to(day, x);
+    let n = days::lent_for(day, x);
     packed_table::step(day, &mut t[..n], request, page)
 }
 
@@ -32,7 +32,7 @@ pub fn replied(day: Day, t: &mut [[u32; 369]], x: Reading, page: &mut [u32]) -> 
     let Some(request) = days::request_in(x) else {
         return ReplyNumbers::from(days::unasked(day));
     };
-    let n = days::lent_to(day, x);
+    let n = days::lent_for(day, x);
     let q = numbers::request_numbers(request, 0);
     packed_requests::asked(day, &mut t[..n], q.kind, q.process, q.word, page)
 }

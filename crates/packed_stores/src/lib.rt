@@ -39,6 +39,7 @@ pub fn lay_own(w: &mut [u32; 369], r: Register)
     lay_register(w, 0, 8, r)
 }
 
+// The kinds are numbers here, since the words cross to C.
 pub fn lay_task(w: &mut [u32; 369], k: Task)
     ensures { w.new ≡ sets w.old 20 (pack_task k) }
 {

@@ -71,7 +71,7 @@ fn decide(w: &mut [u32; 369], a: Access, r: Register, k: Task) -> Find
         (state_by a r (unpack_record w.old) (find_of a r (unpack_record w.old)) k) }
 {
     let p = packed::record_in(w);
-    let f = finds::find_page(a, r, p);
+    let f = finds::find_page(a, r, &p);
     if tasks::ends(k, f) {
         begin(w, a, Task::Idle);
         return f;

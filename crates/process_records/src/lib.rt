@@ -23,7 +23,8 @@ use unbounded_tasks::Find;
 use unbounded_turns::records;
 
 pub trait Record {
-    // How it is kept.
+    // How it is kept. That what is stored reads back as what the step of the definitions leaves is proved of both ways: `plain_left`
+    // (memory/proofs/Plain), `packed_left` and `unpacked_after` (packed_table/proofs).
     ghost form: { Form Self };
 
     fn task(&self) -> Task
@@ -83,7 +84,7 @@ impl Record for Process {
     }
 
     fn read(&mut self, a: Access, r: Register, _k: Task) -> Find {
-        let f = finds::find_page(a, r, *self);
+        let f = finds::find_page(a, r, self);
         turn_own(self, a, r, f);
         f
     }

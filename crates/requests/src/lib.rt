@@ -28,3 +28,10 @@ pub fn index_in(x: Request) -> usize
 {
     (snapshot::number_in(x) - 1) as usize
 }
+
+// The size of the page list that a call lends: it has no words.
+pub fn no_words() -> usize
+    ensures { result ≡ 0 }
+{
+    0
+}

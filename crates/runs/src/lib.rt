@@ -212,7 +212,8 @@ pub fn run<M: Turns>(
         Err(refusal) => return refused(day, refusal),
     };
     let mut at = begin(day);
-    // No `for`: the day and the words go on with the turn, and which comes next is for `next` to say.
+    // No `for` (what may not change): that a run goes on, whose turn is next and what is next are `goes`, `process_at` and `next`, of which
+    // the wrong programs last_turn_lost, first_process_only and stops_at_a_refusal speak.
     while goes(at, plan) {
         let d = process_at(list, at);
         let (after, told) = turn_at::<M>(at, plan, t, d, pages);

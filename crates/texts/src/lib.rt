@@ -49,10 +49,11 @@ impl Number for u64 {
     ghost numeral = { long_decimal };
 
     fn lay(self, sheet: &mut Sheet<'_>) {
-        if self < 10 {
-            return sheet.byte(b'0' + self as u8);
+        let n = self;
+        if n < 10 {
+            return sheet.byte(b'0' + n as u8);
         }
-        sheet.numeral(self, self.ilog10() as usize + 1);
+        sheet.numeral(n, n.ilog10() as usize + 1);
     }
 }
 

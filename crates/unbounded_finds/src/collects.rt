@@ -10,7 +10,6 @@ use unbounded::Register;
 use values::over_values;
 
 // A register in which every number is 0: what a turn that reads none is given.
-// `Default` would be no plainer: it is the same call, and says less of what the zeros are.
 pub fn no_register() -> Register
     ensures { result ≡ zero_register }
 {

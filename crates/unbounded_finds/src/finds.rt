@@ -60,9 +60,9 @@ fn decide(n: usize, end: u32, a: &[Register; 8], b: &[Register; 8], moved: &[boo
 }
 
 // What the read of r finds, by the turn of a record.
-pub fn find_page(a: Access, r: Register, p: Process) -> Find
+pub fn find_page(a: Access, r: Register, p: &Process) -> Find
     requires { Sound a }
-    ensures value { result ≡ find_of a r p }
+    ensures value { result ≡ find_of a r p.now }
     ensures passed_bound { result.passed ≤ 8 }
 {
     let n = a.n;

@@ -8,10 +8,8 @@ use mathlib.Core.Path.{◌≡◌, sym, ap, ◌∙◌}
 use mathlib.Core.Bool.{cond}
 use lib.Dec.{ltb}
 use borrow.Author.Tests.{lt-ltb, le-ltb}
-use Rattle.days.specs.Asking.{request_of, wanted, lent_to}
-use Rattle.days.proofs.Kept.{nothing_wanted}
+use Rattle.days.specs.Asking.{lent_to}
 use Rattle.days.proofs.lent_to.Goals as goal
-use Rattle.days.proofs.lent_to.Goals.{in-Found, in_default}
 
 at_most : (n : ℕ) → min n 8 ≡ cond (ltb n 8) n 8
 at_most n =
@@ -23,9 +21,4 @@ pub returns : goal.returns
 unfolding lent_to
 returns c =
     let day = c.args.day in
-    let n : c.match-x.n ≡ wanted day (request_of c.args.x) =
-    elim c.match-x.branch [
-      | in-Found w ↦ w.n-is ∙ w.wanted-n.ensures ∙ ap (λ x. wanted day (request_of x)) (sym w.in-Found.is)
-      | in_default w ↦ w.n-is ∙ nothing_wanted day c.args.x w.in_default.not-Found
-    ] in
-    c.min.ensures ∙ at_most c.match-x.n ∙ ap (λ n. cond (ltb n 8) n 8) n
+    c.min.ensures ∙ at_most c.wanted.result ∙ ap (λ n. cond (ltb n 8) n 8) c.wanted.ensures

@@ -19,13 +19,13 @@ use Rattle.laps.proofs.records.run.Goals as goal
 
 pub slice_bounds-table-end : goal.slice_bounds-table-end
 slice_bounds-table-end c =
-    let few = subst (λ k. k ≤ 8) (sym c.lent_to-n.ensures) (lent_to_le c.loop-x.progress.day (request_of c.next_of-x.result)) in
+    let few = subst (λ k. k ≤ 8) (sym c.lent_for-n.ensures) (lent_to_le c.loop-x.progress.day (request_of c.next_of-x.result)) in
     omega (arith, few)
 
 pub slice_bounds-asked-end : goal.slice_bounds-asked-end
 slice_bounds-asked-end c =
-    let few = subst (λ k. k ≤ 8) (sym c.lent_to-n.ensures) (lent_to_le c.loop-x.progress.day (request_of c.next_of-x.result)) in
-    sym (length-take-le c.lent_to-n.result c.loop-x.table (omega (arith, few)))
+    let few = subst (λ k. k ≤ 8) (sym c.lent_for-n.ensures) (lent_to_le c.loop-x.progress.day (request_of c.next_of-x.result)) in
+    sym (length-take-le c.lent_for-n.result c.loop-x.table (omega (arith, few)))
 
 -- what a turn reads, asks and comes to
 module _ (c : goal.After-slice_known-in-loop-x-2-1) where
@@ -38,8 +38,8 @@ module _ (c : goal.After-slice_known-in-loop-x-2-1) where
   going : goes_in turn ≡ true
   going = sym c.can_go.ensures ∙ c.loop-x-test.true
 
-  lent : c.lent_to-n.result ≡ lap_lent turn x
-  lent = c.lent_to-n.ensures
+  lent : c.lent_for-n.result ≡ lap_lent turn x
+  lent = c.lent_for-n.ensures
 
   outcome : c.asked-o.result ≡ lap_outcome turn x
   outcome = c.asked-o.ensures.value ∙ ap (λ k. asked_outcome turn.progress.day (take k turn.table) turn.page x) lent
@@ -72,14 +72,14 @@ loop-x-preserved c =
     let new : Turn =
     record {
       progress = c.past-progress.result;
-      table = c.asked-o.new.ps ++ drop c.lent_to-n.result l.table;
+      table = c.asked-o.new.ps ++ drop c.lent_for-n.result l.table;
       page = c.asked-o.new.page;
       out = c.past-progress.new.out;
     } in
     let same : new ≡ next_turn t (x c) =
     λ i. record { progress = past c i; table = records i ++ drop (n i) l.table; page = page c i; out = out i } in
-    let few = subst (λ k. k ≤ 8) (sym c.lent_to-n.ensures) (lent_to_le l.progress.day (request_of (x c))) in
-    let front = c.asked-o.auto.ps ∙ length-take-le c.lent_to-n.result l.table (omega (arith, few)) in
+    let few = subst (λ k. k ≤ 8) (sym c.lent_for-n.ensures) (lent_to_le l.progress.day (request_of (x c))) in
+    let front = c.asked-o.auto.ps ∙ length-take-le c.lent_for-n.result l.table (omega (arith, few)) in
     let ready = subst (λ q. CanLay q (length bytes) (length l.out) (length l.page)) (sym (past c))
     (lap_ready t (x c) l.invariant.0 (going c) c.next_of-x.ensures.1) in (
       subst (λ (m : ℕ × ℕ). CanLay c.past-progress.result (length bytes) m.0 m.1)

@@ -18,8 +18,8 @@ digits_of : (p n : ℕ) → p < 20 → 10 ^ p ≤ n → n < 10 * 10 ^ p → long
 digits_of p n few least most =
     long_places p n (omega arith) least (omega (arith, pow-suc 10 p)) ∙ ap (λ k. trailing_digits k n) (sym (add-one p))
 
-pub returns-then-self-lt10-clause-laid : goal.returns-then-self-lt10-clause-laid
-returns-then-self-lt10-clause-laid c = lays_as (sym (one c.args.self c.if-self-lt10.true)) c.byte.ensures
+pub returns-then-n-lt10-clause-laid : goal.returns-then-n-lt10-clause-laid
+returns-then-n-lt10-clause-laid c = lays_as (sym (one c.args.self c.if-n-lt10.true)) c.byte.ensures
 
 pub returns : goal.returns
 returns c =

@@ -71,7 +71,7 @@ module _ (a : Access) (r : Register) (p : Process) where
 pub returns-then-pos-n : goal.returns-then-pos-n
 returns-then-pos-n c =
     let s = c.args in
-    let q = finds-nothing s.a s.r s.p _ c.requires c.if-pos-n.true c.nothing_found.ensures in
+    let q = finds-nothing s.a s.r s.p.now _ c.requires c.if-pos-n.true c.nothing_found.ensures in
     record { value = q.0; passed_bound = q.1 }
 
 pub returns : goal.returns
@@ -79,5 +79,5 @@ returns c =
     let s = c.args in
     let last = c.if-pos-n.false in
     let laid = c.lay in
-    let q = finds-last s.a s.r s.p _ laid.result c.requires last laid.ensures c.decide.ensures in
+    let q = finds-last s.a s.r s.p.now _ laid.result c.requires last laid.ensures c.decide.ensures in
     record { value = q.0; passed_bound = q.1 }
