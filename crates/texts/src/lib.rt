@@ -140,6 +140,7 @@ impl<'a> Sheet<'a> {
     }
 
     // Lays a text and a number after it.
+    #[inline(always)]
     pub fn field<N: Number>(&mut self, text: &[u8], n: N)
         requires { HasRoom self.old (length text.now + N.MOST) }
         ensures laid { Lays self.old (text.now ++ N.numeral n) self.new }
@@ -149,7 +150,9 @@ impl<'a> Sheet<'a> {
         self.number(n);
     }
 
-    // Lays two numbers with a text between them.
+    // Lays two numbers with a text between them. Where it is called the text is known, so it is laid out there, as in `field`: a record of the
+    // day runner takes some 70 instructions less than by a call.
+    #[inline(always)]
     pub fn pair<N: Number>(&mut self, m: N, text: &[u8], n: N)
         requires { HasRoom self.old (length text.now + 2 * N.MOST) }
         ensures laid { Lays self.old (N.numeral m ++ (text.now ++ N.numeral n)) self.new }

@@ -39,7 +39,8 @@ fn clear_own(p: &mut Process, n: usize)
     clear(&mut p.second[..n], n);
 }
 
-// A record with task k and nothing collected.
+// A record with task k and nothing collected. Laid out where it is called: some 50 instructions a record less than by a call.
+#[inline(always)]
 pub fn begin_own(p: &mut Process, a: Access, k: Task)
     requires { Sound a }
     ensures { p.new ≡ begun_by a k p.old }
