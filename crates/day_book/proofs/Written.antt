@@ -4,7 +4,7 @@
 use Prim.Native.Nat.{ℕ, ◌+◌, ◌-◌, ◌^◌, ◌≤◌, ◌<◌}
 use native.Mathlib.Omega.{arith}
 use mathlib.Core.Path.{◌≡◌, ap, subst, ◌∙◌}
-use mathlib.Core.Bool.{Bool, cond}
+use mathlib.Core.Bool.{Bool, true, cond}
 use mathlib.Core.List.{List, []}
 use lib.ListN.{length}
 use borrow.Author.Tests.{le-ltb}
@@ -13,8 +13,7 @@ use Rattle.book.proofs.Fits.{book_fits}
 use Rattle.booklines.specs.BookText.{book_text}
 use Rattle.streams.specs.System.{IsSent}
 use Rattle.texts.specs.Laying.{Laid}
-use Rattle.streams.specs.declared.input.State.TheVariants.{Broken}
-use Rattle.streams.specs.Input.{ReadsFile, interruptions, is_last, is_broken, incoming}
+use Rattle.streams.specs.Input.{ReadsFile, interruptions, incoming}
 use Rattle.streams.proofs.Whole.{whole_file, whole_full}
 use Rattle.day_book.specs.Runs.{written_of, IsBookRun}
 use Rattle.day_book.proofs.Inputs.{cut_unwritten, unread_unwritten}
@@ -28,8 +27,8 @@ module _ {places : ℕ} {bytes before out : List ℕ} {went : Bool} (r : IsBookR
   as_text text is = subst (λ t. Prints t before out r.end went) is (r.laid, r.sent)
 
   -- where a read fails, nothing
-  pub unread_unprinted : r.input.state ≡ Broken → Prints [] before out r.end went
-  unread_unprinted failed = as_text [] (unread_unwritten places _ (ap is_broken failed))
+  pub unread_unprinted : r.input.failed ≡ true → Prints [] before out r.end went
+  unread_unprinted failed = as_text [] (unread_unwritten places _ failed)
 
   module _ (file rest : List ℕ) (reads : ReadsFile r.whole.gave file rest)
       (enough : length file + interruptions r.whole.gave < 2 ^ 64 - 1) where
@@ -44,7 +43,7 @@ module _ {places : ℕ} {bytes before out : List ℕ} {went : Bool} (r : IsBookR
     pub long_unprinted : length bytes ≤ length file → Prints [] before out r.end went
     long_unprinted over =
         let full = whole_full r.whole file rest reads enough over in
-        as_text [] (cut_unwritten places _ (ap is_broken full.1) (ap is_last full.1))
+        as_text [] (cut_unwritten places _ full.2 full.1)
 
 -- ---- the program: a buffer of 2,097,153 bytes, and 21,845 places
 

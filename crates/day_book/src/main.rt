@@ -8,7 +8,7 @@ ghost use Rattle.texts.specs.Laying.{Laid};
 ghost use Rattle.streams.specs.Input.{incoming};
 ghost use Rattle.day_book.specs.Runs.{LinesFit, book_of, written_of, IsBookRun};
 
-use streams::input::{Input, State};
+use streams::input::Input;
 use streams::output::Unsent;
 use streams::{input, output};
 
@@ -49,14 +49,14 @@ fn lay_input(
     ensures { Laid out.old 0
         (written_of (length places.old) (incoming input bytes.now)) out.new result }
 {
-    match input.state {
-        State::Ended => lay(rt, &bytes[..input.end], places, out),
-        State::Open => {
-            let _ = eprintln!(rt; "day_book: the day file has more than 2097152 bytes");
-            0
-        }
-        State::Broken => 0,
+    if input.failed {
+        return 0;
     }
+    if !input.last {
+        let _ = eprintln!(rt; "day_book: the day file has more than 2097152 bytes");
+        return 0;
+    }
+    lay(rt, &bytes[..input.end], places, out)
 }
 
 // Reads the whole input, and writes the text of its book.

@@ -12,7 +12,7 @@ use Rattle.gathering.specs.Answers.{quarter_of}
 use Rattle.figurelines.specs.FigureText.{reckoning_text}
 use Rattle.texts.specs.Laying.{Laid}
 use Rattle.streams.specs.System.{IsSent}
-use Rattle.streams.specs.Input.{Incoming, complete, is_last, is_broken, IsWhole, ReadsFile, interruptions}
+use Rattle.streams.specs.Input.{Incoming, complete, IsWhole, ReadsFile, interruptions}
 use Rattle.streams.proofs.Whole.{whole_file, whole_full}
 use Rattle.quarters.proofs.Days.{tried_whole}
 use Rattle.quarters.specs.Days.{IsDay, AllDays, is_whole, all_whole, answers_of}
@@ -22,7 +22,7 @@ use Rattle.day_figures.specs.Runs.{written_of, IsFiguresRun}
 
 -- the file that d came of was opened, no read of it failed, and the reads gave `file`
 pub record Gave {size : ℕ} {d : Incoming} (day : IsDay size d) (file : List ℕ) : Type 0 where
-  pub good : is_broken day.input.state ≡ false
+  pub good : day.input.failed ≡ false
   pub rest : List ℕ
   pub reads : ReadsFile (tried_whole day.tried good).gave file rest
   pub enough : length file + interruptions (tried_whole day.tried good).gave < 2 ^ 64 - 1
@@ -42,7 +42,7 @@ module _ {size : ℕ} {d : Incoming} (day : IsDay size d) (file : List ℕ) (gav
   long_lost long =
       let size_is = day.long in
       let full = whole_full whole file gave.rest gave.reads gave.enough (omega (arith, long, size_is)) in
-      ap is_whole day.is ∙ ap (λ z. not (is_broken z) && is_last z) full.1
+      ap is_whole day.is ∙ ap₂ (λ f l. not f && l) full.2 full.1
 
 -- one that could not be opened, or of which a read failed, neither
 pub failed_lost : (d : Incoming) → d.failed ≡ true → is_whole d ≡ false

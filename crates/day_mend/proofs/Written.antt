@@ -12,8 +12,7 @@ use Rattle.mending.specs.Mending.{Part, kept_of, drops_of, parts_of, mended, dro
 use Rattle.mender.specs.Passes.{bytes_in}
 use Rattle.mender.proofs.Passing.{kept_append, drops_append}
 use Rattle.mendlines.specs.DropText.{drop_text, drops_text}
-use Rattle.streams.specs.declared.input.State.TheVariants.{Broken}
-use Rattle.streams.specs.Input.{ReadsFile, interruptions, is_last, is_broken, incoming}
+use Rattle.streams.specs.Input.{ReadsFile, interruptions, incoming}
 use Rattle.streams.proofs.Whole.{whole_file, whole_full}
 use Rattle.day_mend.proofs.Inputs.{unread_none, cut_none}
 use Rattle.day_mend.specs.Runs.{Tells, Writes, over, stops, goes_on, handed_out, handed_err, parts_written, IsMendRun}
@@ -123,9 +122,9 @@ module _ {bytes : List ℕ} {went told : Bool} (r : IsMendRun bytes went told) (
   pub day_mend_refused : 6291456 < length file → (handed_out r.wrote ≡ []) × (handed_err r.wrote ≡ [])
   day_mend_refused long =
       let full = whole_full r.whole file rest reads enough (omega (arith, long, size)) in
-      nothing_handed r.wrote (cut_none (incoming r.input bytes) (ap is_broken full.1) (ap is_last full.1))
+      nothing_handed r.wrote (cut_none (incoming r.input bytes) full.2 full.1)
 
 -- nor where a read fails
-pub day_mend_unread : {bytes : List ℕ} {went told : Bool} (r : IsMendRun bytes went told) → r.input.state ≡ Broken →
+pub day_mend_unread : {bytes : List ℕ} {went told : Bool} (r : IsMendRun bytes went told) → r.input.failed ≡ true →
     (handed_out r.wrote ≡ []) × (handed_err r.wrote ≡ [])
-day_mend_unread {bytes} r failed = nothing_handed r.wrote (unread_none (incoming r.input bytes) (ap is_broken failed))
+day_mend_unread {bytes} r failed = nothing_handed r.wrote (unread_none (incoming r.input bytes) failed)

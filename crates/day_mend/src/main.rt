@@ -16,7 +16,7 @@ ghost use Rattle.day_mend.specs.Runs.{Tells, IsWritten, Writes, IsPassed, parts_
 
 use mender::Progress;
 use snapshot::Day;
-use streams::input::{Input, State};
+use streams::input::Input;
 use streams::{input, output};
 
 // The bytes of the longest day file, and one more: a file that fills the buffer is too long.
@@ -149,6 +149,7 @@ fn passes(
         at: 0,
         wrote: ALL,
     };
+    // A loop on a condition: no index is counted by hand, since where the next piece begins is in what was read.
     while s.wrote.went && s.at < bytes.len() {
         s = pass_on(rt, s, bytes, t, page, buffers);
     }
@@ -169,14 +170,14 @@ fn mend_input(rt: &HostRuntime, input: Input, bytes: &[u8], buffers: &mut Buffer
     requires { (input.at ≡ 0) × (input.end ≤ length bytes.now) }
     ensures { Writes 0 true (parts_written (incoming input bytes.now)) result.went result.told }
 {
-    match input.state {
-        State::Ended => mend(rt, &bytes[..input.end], buffers),
-        State::Open => {
-            let _ = eprintln!(rt; "day_mend: the day file has more than 6291456 bytes");
-            ALL
-        }
-        State::Broken => ALL,
+    if input.failed {
+        return ALL;
     }
+    if !input.last {
+        let _ = eprintln!(rt; "day_mend: the day file has more than 6291456 bytes");
+        return ALL;
+    }
+    mend(rt, &bytes[..input.end], buffers)
 }
 
 // Reads the whole input, and mends it.

@@ -30,13 +30,11 @@ use Rattle.texts.proofs.Laying.{take_laid}
 use Rattle.daytext.proofs.Room.{laid_with_room}
 use Rattle.daytext.proofs.Lengths.{line_fits}
 use Rattle.streams.specs.declared.input.Input.{Input}
-use Rattle.streams.specs.declared.input.State.{State}
-use Rattle.streams.specs.declared.input.State.TheVariants.{Open, Ended, Broken}
 use Rattle.laps.specs.declared.records.Progress.{Progress}
 use Rattle.daylines.specs.Printed.{line_of, line_in}
-use Rattle.streams.specs.Input.{Within, input_left, is_last, is_broken}
+use Rattle.streams.specs.Input.{Within, input_left}
 use Rattle.streams.proofs.Refilling.{left_long}
-use Rattle.laps.specs.Progress.{Takes, next_in, can_go, shut, closed_progress, progress_past, lines_left, CanLay, stand_at}
+use Rattle.laps.specs.Progress.{Takes, next_in, can_go, closed_progress, progress_past, lines_left, CanLay, stand_at}
 use Rattle.laps.specs.Laps.{Stand, has_to_go_on, goes, closed, lap_on, lap, laps, ran}
 
 -- ---- the count of laps is no limit
@@ -205,8 +203,8 @@ module _ (p : Progress) (unended : p.ended ≡ false) where
       go (Found r k) t = let l = t.found r k refl in omega arith
       go End t =
           subst (λ b. cond b 0 (1 + (p.input.end - p.input.end + 5) / 6) < 1 + (p.input.end - p.input.at + 5) / 6)
-          (sym (or-true (is_broken p.input.state))) (omega arith)
-      go (Refused k) t = let l = t.refused k refl in let m = at_most_one (is_broken p.input.state || false) in omega arith
+          (sym (or-true p.input.failed)) (omega arith)
+      go (Refused k) t = let l = t.refused k refl in let m = at_most_one (p.input.failed || false) in omega arith
 
 module _ (p : Progress) (d : Day) (w : ℕ) where
   past_within : (n : ℕ) (x : Reading) → Takes x p.input → Within p.input n → Within (progress_past p d w x).input n
@@ -223,20 +221,20 @@ module _ (p : Progress) (d : Day) (w : ℕ) where
     past_written : (x : Reading) → (progress_past p d w x).written ≤ p.written + longest
     unfolding progress_past
     past_written (Found r k) = near
-    past_written End = closed_written (is_broken p.input.state)
-    past_written (Refused k) = closed_written (is_broken p.input.state)
+    past_written End = closed_written p.input.failed
+    past_written (Refused k) = closed_written p.input.failed
 
 -- where there is room for all lines, the code makes a lap where there is one
 module _ (p : Progress) (size room words : ℕ) (ready : CanLay p size room words) where
   room_for_one : p.ended ≡ false → p.written + longest ≤ room
   room_for_one u = let l = lines_left_lem p u in let r = ready.room_left in omega (arith, l, r)
 
-  can_go_is : can_go p room ≡ has_to_go_on p.ended (is_last p.input.state) (p.input.end - p.input.at)
+  can_go_is : can_go p room ≡ has_to_go_on p.ended p.input.last (p.input.end - p.input.at)
   unfolding can_go
   can_go_is = go p.ended (λ u. le-leb (p.written + longest) room (room_for_one u))
     where
       go : (b : Bool) → (b ≡ false → leb (p.written + longest) room ≡ true) →
-          let on = has_to_go_on b (is_last p.input.state) (p.input.end - p.input.at) in leb (p.written + longest) room && on ≡ on
+          let on = has_to_go_on b p.input.last (p.input.end - p.input.at) in leb (p.written + longest) room && on ≡ on
       go true h = and-false (leb (p.written + longest) room)
       go false h = rw (h refl)
 
@@ -293,7 +291,7 @@ module _ (t : Turn) (y : Reading) where
     unended : t.progress.ended ≡ false
     unended =
         let i = t.progress.input in
-        going_unended t.progress.ended (is_last i.state) (i.end - i.at) (sym (can_go_is t.progress size room few ready) ∙ go)
+        going_unended t.progress.ended i.last (i.end - i.at) (sym (can_go_is t.progress size room few ready) ∙ go)
 
     pub lap_fewer : lines_left next_turn.progress < lines_left t.progress
     lap_fewer = lines_fewer t.progress unended lap_outcome.day line_end y takes
@@ -311,17 +309,6 @@ module _ (t : Turn) (y : Reading) where
           few = ready.few;
         }
 
--- an input of which no more will come
-shut_last : (s : State) → is_last (shut s) ≡ true
-shut_last Open = refl
-shut_last Ended = refl
-shut_last Broken = refl
-
-shut_broken : (s : State) → is_broken (shut s) ≡ is_broken s
-shut_broken Open = refl
-shut_broken Ended = refl
-shut_broken Broken = refl
-
 -- a lap of the code is a lap of the definitions
 module _ (p : Progress) (xs : List Process) (page bytes out : List ℕ)
     (ready : CanLay p (length bytes) (length out) (length page)) (go : can_go p (length out) ≡ true) where
@@ -330,13 +317,13 @@ module _ (p : Progress) (xs : List Process) (page bytes out : List ℕ)
 
   goes_too : goes s ≡ true
   goes_too =
-      ap (has_to_go_on p.ended (is_last p.input.state)) (left_long p.input bytes ready.within)
+      ap (has_to_go_on p.ended p.input.last) (left_long p.input bytes ready.within)
       ∙ sym (can_go_is p (length bytes) (length out) (length page) ready) ∙ go
 
   room_here : p.written + longest ≤ length out
   room_here =
       room_for_one p (length bytes) (length out) (length page) ready
-      (going_unended p.ended (is_last p.input.state) (length s.input.left) goes_too)
+      (going_unended p.ended p.input.last (length s.input.left) goes_too)
 
   -- what is laid
   module _ (y : Reading) where
@@ -372,14 +359,10 @@ module _ (p : Progress) (xs : List Process) (page bytes out : List ℕ)
   closed_on : (y : Reading) (e : Bool) → let b = box_after s.box y in
       stand_at (closed_progress p b.day (w y) e) b.table b.page bytes (o y) ≡ closed s y e
   closed_on y e =
-      let f = is_broken p.input.state in
+      let f = p.input.failed in
       let b = box_after s.box y in
-      λ j. record {
-        box = b;
-        input = record { left = left_none p.input bytes j; last = shut_last p.input.state j; failed = shut_broken p.input.state j };
-        lines = lines_by y f j;
-        ended = f || e;
-      }
+      ap₂ (λ l ls. record { box = b; input = record { left = l; last = true; failed = f }; lines = ls; ended = f || e })
+      (left_none p.input bytes) (lines_by y f)
 
   lap_on_lem : (y : Reading) → let b = box_after s.box y in
       stand_at (progress_past p b.day (w y) y) b.table b.page bytes (o y) ≡ lap_on s y
@@ -387,7 +370,7 @@ module _ (p : Progress) (xs : List Process) (page bytes out : List ℕ)
   lap_on_lem (Found r k) =
       let b = box_after s.box (Found r k) in
       let i = p.input in
-      ap₂ (λ l ls. record { box = b; input = record { left = l; last = is_last i.state; failed = is_broken i.state }; lines = ls; ended = false })
+      ap₂ (λ l ls. record { box = b; input = record { left = l; last = i.last; failed = i.failed }; lines = ls; ended = false })
       (left_past i bytes k) (lines_laid (Found r k))
   lap_on_lem End = closed_on End true
   lap_on_lem (Refused k) = closed_on (Refused k) false
@@ -408,5 +391,5 @@ module _ (t : Turn) (bytes : List ℕ) (ready : Ready t bytes) where
   no_lap stop =
       let p = t.progress in
       ran_over (stand_in t bytes)
-      (ap (has_to_go_on p.ended (is_last p.input.state)) (left_long p.input bytes ready.within)
+      (ap (has_to_go_on p.ended p.input.last) (left_long p.input bytes ready.within)
       ∙ sym (can_go_is p (length bytes) (length t.out) (length t.page) ready) ∙ stop)

@@ -10,11 +10,9 @@ use Rattle.dayfile.specs.declared.Reading.TheVariants.{Found, End, Refused}
 use Rattle.daytext.specs.Buffer.{longest}
 use Rattle.unbounded.specs.declared.Process.{Process}
 use Rattle.streams.specs.declared.input.Input.{Input}
-use Rattle.streams.specs.declared.input.State.{State}
-use Rattle.streams.specs.declared.input.State.TheVariants.{Open, Ended, Broken}
 use Rattle.laps.specs.declared.records.Progress.{Progress}
 use Rattle.laps.specs.declared.records.Running.{Running}
-use Rattle.streams.specs.Input.{Within, input_left, is_last, is_broken, incoming}
+use Rattle.streams.specs.Input.{Within, input_left, incoming}
 use Rattle.laps.specs.Laps.{Stand, has_to_go_on}
 
 -- ---- the input
@@ -45,7 +43,7 @@ stand_of r page bytes out = stand_at r.progress r.table page bytes out
 
 -- the beginning: "A blank day has both 0", and nothing is read or laid
 abbrev pub blank_progress : Progress
-blank_progress = record { day = blank_day; input = record { at = 0; end = 0; state = Open }; written = 0; ended = false }
+blank_progress = record { day = blank_day; input = record { at = 0; end = 0; last = false; failed = false }; written = 0; ended = false }
 
 -- once the input was filled up, and once the output was written, or could not be
 abbrev pub refilled_progress : Progress → Input → Progress
@@ -56,13 +54,7 @@ flushed_progress p went = record { day = p.day; input = p.input; written = p.wri
 
 -- whether there is another lap, with an output of that many bytes
 unfoldable pub can_go : Progress → ℕ → Bool
-can_go p room = leb (p.written + longest) room && has_to_go_on p.ended (is_last p.input.state) (p.input.end - p.input.at)
-
--- no more will come of it
-abbrev pub shut : State → State
-shut Open = Ended
-shut Ended = Ended
-shut Broken = Broken
+can_go p room = leb (p.written + longest) room && has_to_go_on p.ended p.input.last (p.input.end - p.input.at)
 
 -- after a lap that found no record, and after one in which x was read: its line is laid up to w
 abbrev pub closed_progress : Progress → Day → ℕ → Bool → Progress
@@ -70,9 +62,9 @@ closed_progress p d w is_end =
     let i = p.input in
     record {
       day = d;
-      input = record { at = i.end; end = i.end; state = shut i.state };
-      written = cond (is_broken i.state) p.written w;
-      ended = is_broken i.state || is_end;
+      input = record { at = i.end; end = i.end; last = true; failed = i.failed };
+      written = cond i.failed p.written w;
+      ended = i.failed || is_end;
     }
 
 unfoldable pub progress_past : Progress → Day → ℕ → Reading → Progress
@@ -80,7 +72,7 @@ progress_past p d w (Found r next) =
     let i = p.input in
     record {
       day = d;
-      input = record { at = i.at + next; end = i.end; state = i.state };
+      input = record { at = i.at + next; end = i.end; last = i.last; failed = i.failed };
       written = w;
       ended = false;
     }

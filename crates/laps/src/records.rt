@@ -13,7 +13,7 @@ use dayfile::Reading;
 use daytext::LONGEST;
 use memory::table;
 use snapshot::{Day, Outcome};
-use streams::input::{Input, State};
+use streams::input::Input;
 use unbounded::Process;
 
 // The longest record, in bytes.
@@ -43,7 +43,8 @@ pub fn start() -> Running
     let input = Input {
         at: 0,
         end: 0,
-        state: State::Open,
+        last: false,
+        failed: false,
     };
     let progress = Progress {
         day: snapshot::blank(),
@@ -69,7 +70,8 @@ pub fn refilled(r: Running, input: Input) -> Running
     Running { progress, ..r }
 }
 
-// After the output was written, or could not be.
+// After the output was written, or could not be. `went` stays a flag: `flushed_progress` and `Did.went` speak of the Bool (what may not
+// change).
 pub fn flushed(r: Running, went: bool) -> Running
     ensures { (result.progress ≡ flushed_progress r.progress went) × (result.table ≡ r.table) }
 {
@@ -97,15 +99,13 @@ fn can_go(at: Progress, room: usize) -> bool
     if room - at.written < LONGEST {
         return false;
     }
-    match input.state {
-        State::Open => {
-            if input.end < input.at {
-                return false;
-            }
-            WHOLE <= input.end - input.at
-        }
-        State::Ended | State::Broken => true,
+    if input.last {
+        return true;
     }
+    if input.end < input.at {
+        return false;
+    }
+    WHOLE <= input.end - input.at
 }
 
 // The next record of the input, or how it ends.
@@ -122,26 +122,24 @@ fn next_of(at: Progress, bytes: &[u8]) -> Reading
 fn closed(at: Progress, day: Day, written: usize, end: bool) -> Progress
     ensures { result ≡ closed_progress at day written end }
 {
-    let none = Input {
+    let input = Input {
         at: at.input.end,
+        last: true,
         ..at.input
     };
-    match at.input.state {
-        State::Broken => Progress {
+    if at.input.failed {
+        return Progress {
             day,
-            input: none,
+            input,
             written: at.written,
             ended: true,
-        },
-        State::Open | State::Ended => Progress {
-            day,
-            input: Input {
-                state: State::Ended,
-                ..none
-            },
-            written,
-            ended: end,
-        },
+        };
+    }
+    Progress {
+        day,
+        input,
+        written,
+        ended: end,
     }
 }
 
@@ -179,6 +177,7 @@ pub fn run(r: Running, bytes: &[u8], out: &mut [u8], page: &mut [u32]) -> Runnin
 {
     let mut table = r.table;
     let mut progress = r.progress;
+    // A loop on a condition: no index is counted by hand, since where the next record begins is in what was read.
     while can_go(progress, out.len()) {
         let x = next_of(progress, bytes);
         let n = days::lent_for(progress.day, x);

@@ -14,7 +14,7 @@ use Rattle.gathering.specs.Gathered.{sums_with_all}
 use Rattle.gathering.specs.Laps.{gathered}
 use Rattle.gathering.proofs.Passing.{with_both}
 use Rattle.streams.specs.declared.input.Input.{Input}
-use Rattle.streams.specs.Input.{Incoming, is_broken, IsWhole}
+use Rattle.streams.specs.Input.{Incoming, IsWhole}
 use Rattle.quarters.specs.Days.{IsOpened, IsTried, AllDays, is_whole, all_whole, answers_of, IsAdded, IsDayAdded, AreRead}
 
 -- ---- one file
@@ -28,12 +28,12 @@ tried_within {i} {bytes} t = go t.opening t.opened
     go false none = (ap (λ j. j.at) none, subst (λ k. k ≤ length bytes) (sym (ap (λ j. j.end) none)) (omega arith))
 
 -- and where nothing failed it was read whole
-pub tried_whole : {i : Input} {bytes : List ℕ} → IsTried i bytes → is_broken i.state ≡ false → IsWhole i bytes
+pub tried_whole : {i : Input} {bytes : List ℕ} → IsTried i bytes → i.failed ≡ false → IsWhole i bytes
 tried_whole {i} {bytes} t good = go t.opening t.opened
   where
     go : (z : Bool) → IsOpened z i bytes → IsWhole i bytes
     go true whole = whole
-    go false none = absurd (true≢false (sym (ap (λ j. is_broken j.state) none) ∙ good))
+    go false none = absurd (true≢false (sym (ap (λ j. j.failed) none) ∙ good))
 
 -- ---- one day
 

@@ -7,14 +7,13 @@ use Rattle.gathering.specs.Gathered.{sums_with_all}
 use Rattle.gathering.specs.Laps.{gathered}
 use Rattle.streams.specs.declared.input.Input.{Input}
 use Rattle.streams.specs.Input.{Incoming, incoming, IsWhole}
-use Rattle.streams.specs.declared.input.State.TheVariants.{Broken}
 
 -- ---- what was read
 
 -- what comes of a file that was opened: what its reads give; of one that was not a failure
 abbrev pub IsOpened : Bool → Input → List ℕ → Type 0
 IsOpened true i bytes = IsWhole i bytes
-IsOpened false i bytes = i ≡ record { at = 0; end = 0; state = Broken }
+IsOpened false i bytes = i ≡ record { at = 0; end = 0; last = true; failed = true }
 
 -- a file was opened, or not, and read into bytes
 pub record IsTried (i : Input) (bytes : List ℕ) : Type 0 where

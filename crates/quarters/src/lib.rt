@@ -11,7 +11,7 @@ use std::env::Env;
 use std::fs::Files;
 use std::io::{IsTerminal, Read, Write};
 use std::{fs, io, str};
-use streams::input::{Input, State};
+use streams::input::Input;
 use streams::{input, system};
 
 mod messages;
@@ -46,7 +46,8 @@ fn read_file<F: Read + Drop, M: Write>(
             Input {
                 at: 0,
                 end: 0,
-                state: State::Broken,
+                last: true,
+                failed: true,
             }
         }
     }
@@ -81,20 +82,18 @@ fn gather<M: Write>(
     requires { IsTried i bytes.now }
     ensures { IsAdded (incoming i bytes.now) count answers.old result answers.new }
 {
-    match i.state {
-        State::Broken => None,
-        State::Open => {
-            messages::too_long(label, messages);
-            None
-        }
-        State::Ended => {
-            let g = gathering::gather(&bytes[..i.end], answers, count.unwrap_or(0));
-            if let Some(refusal) = g.refusal {
-                messages::ended_by(label, refusal, messages);
-            }
-            count.and(Some(g.count))
-        }
+    if i.failed {
+        return None;
     }
+    if !i.last {
+        messages::too_long(label, messages);
+        return None;
+    }
+    let g = gathering::gather(&bytes[..i.end], answers, count.unwrap_or(0));
+    if let Some(refusal) = g.refusal {
+        messages::ended_by(label, refusal, messages);
+    }
+    count.and(Some(g.count))
 }
 
 // Reads the file of that label, and gathers its answers.

@@ -36,8 +36,6 @@ pub fn too_long<M: Write>(label: Label, messages: &mut M) {
 pub fn ended_by<M: Write>(label: Label, refusal: Refusal, messages: &mut M) {
     let number = u32::from(refusal);
     tell(label, b": refused ", messages);
-    let _ = writeln!(
-        messages,
-        "{number}, and nothing after that is in the figures"
-    );
+    let _ = write!(messages, "{number}");
+    let _ = messages.write_all(b", and nothing after that is in the figures\n");
 }

@@ -1,8 +1,8 @@
 -- What filling up the input buffer comes to: what was left lies at the front, and what a read gave stands behind it.
 use Prim.Native.Nat.{ℕ, ◌+◌, ◌-◌}
 use native.Mathlib.Omega.{arith}
-use mathlib.Core.Path.{◌≡◌, refl, sym, ap, subst, ◌∙◌}
-use mathlib.Core.Bool.{Bool, true, false, cond}
+use mathlib.Core.Path.{◌≡◌, sym, ap, ap₂, subst, ◌∙◌}
+use mathlib.Core.Bool.{true, false}
 use mathlib.Core.List.{List, [], ◌∷◌, ◌++◌}
 use lib.ListN.{length, take, drop, length-drop}
 use lib.Seq.{length-take-le, take_at, take-add}
@@ -11,11 +11,10 @@ use borrow.Author.Tests.{eq-eqb, ne_eqb}
 use Rattle.std.specs.List.{copy_within}
 use Rattle.streams.specs.declared.input.Input.{Input}
 use Rattle.std.specs.Prelude.{Result, Ok, Err}
-use Rattle.streams.specs.declared.input.State.TheVariants.{Open, Ended}
 use Rattle.streams.specs.declared.system.Stop.{Stop}
 use Rattle.streams.specs.declared.system.Stop.TheVariants.{Interrupted, Failed}
 use Rattle.streams.specs.System.{AtMost}
-use Rattle.streams.specs.Input.{Within, input_left, is_last, is_broken, came, interrupted, fault, is_nothing, input_by, IsRefill}
+use Rattle.streams.specs.Input.{Within, input_left, came, interrupted, fault, is_nothing, input_by, IsRefill}
 
 -- how many bytes lie in an input buffer
 pub left_long : (i : Input) (bytes : List ℕ) → Within i (length bytes) → length (input_left i bytes) ≡ i.end - i.at
@@ -23,18 +22,9 @@ left_long i bytes w =
     let d = length-drop i.at bytes in let a = w.start in let b = w.stop in
     length-take-le (i.end - i.at) (drop i.at bytes) (omega (arith, d, a, b))
 
--- what k bytes that came say of the rest
-module _ (k : ℕ) where
-  nothing_last : (c : List ℕ) → length c ≡ k → is_last (cond (eqb k 0) Ended Open) ≡ is_nothing c
-  nothing_last [] e = ap (λ b. is_last (cond b Ended Open)) (eq-eqb k 0 (sym e))
-  nothing_last (x ∷ c) e = ap (λ b. is_last (cond b Ended Open)) (ne_eqb k 0 (λ q. omega (arith, e, q)))
-
-  none_broken : is_broken (cond (eqb k 0) Ended Open) ≡ false
-  none_broken = go (eqb k 0)
-    where
-      go : (b : Bool) → is_broken (cond b Ended Open) ≡ false
-      go true = refl
-      go false = refl
+nothing_is : (k : ℕ) (c : List ℕ) → length c ≡ k → eqb k 0 ≡ is_nothing c
+nothing_is k [] e = eq-eqb k 0 (sym e)
+nothing_is k (x ∷ c) e = ne_eqb k 0 (λ q. omega (arith, e, q))
 
 module _ (i : Input) (b after : List ℕ) (w : Within i (length b)) (long : length after ≡ length b) where
   abbrev n : ℕ
@@ -56,7 +46,7 @@ module _ (i : Input) (b after : List ℕ) (w : Within i (length b)) (long : leng
         let c = take k (drop n after) in
         let is : length c ≡ k = length-take-le k (drop n after) (let d = length-drop n after in omega (arith, d, few, long)) in (
           record { start = omega arith; stop = omega (arith, few, long, s, z) },
-          (came c, λ j. record { left = left_more k j; last = nothing_last k c is j; failed = none_broken k j }),
+          (came c, ap₂ (λ l e. record { left = l; last = e; failed = false }) (left_more k) (nothing_is k c is)),
         )
     refilled (Err Interrupted) few =
         let s = w.start in let z = w.stop in (

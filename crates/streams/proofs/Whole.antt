@@ -10,14 +10,12 @@ use mathlib.Core.List.{List, [], ◌∷◌, ◌++◌, append_assoc, append-nil}
 use lib.ListN.{length, take, drop, length-append}
 use Rattle.streams.specs.declared.input.Input.{Input}
 use Rattle.std.specs.Prelude.{Result, Ok, Err}
-use Rattle.streams.specs.declared.input.State.{State}
-use Rattle.streams.specs.declared.input.State.TheVariants.{Open, Ended, Broken}
 use Rattle.streams.specs.declared.system.Stop.{Stop}
 use Rattle.streams.specs.declared.system.Stop.TheVariants.{Interrupted, Failed}
 use Rattle.streams.specs.System.{AtMost}
 use Rattle.streams.specs.Input.{Incoming, expecting, complete, Gave, came, interrupted, fault, filled, ReadsTo}
 use Rattle.streams.specs.Input.{ReadsFile, interruption, interruptions}
-use Rattle.streams.specs.Input.{Within, input_left, is_last, incoming, input_by, IsWhole}
+use Rattle.streams.specs.Input.{Within, input_left, incoming, input_by, IsWhole}
 use Rattle.streams.proofs.Transfers.{at_most_le}
 use Rattle.streams.proofs.Refilling.{left_long, refill_is}
 
@@ -38,7 +36,7 @@ pub record Coming (i : Input) (bytes : List ℕ) (made : ℕ) : Type 0 where
   pub counted : length gave ≡ made
 
 -- before the first read
-pub none_came : (bytes : List ℕ) → Coming (record { at = 0; end = 0; state = Open }) bytes 0
+pub none_came : (bytes : List ℕ) → Coming (record { at = 0; end = 0; last = false; failed = false }) bytes 0
 none_came bytes = record {
   within = record { start = omega arith; stop = omega arith };
   front = refl;
@@ -62,7 +60,7 @@ by_front kept (Err Interrupted) = refl
 by_front kept (Err Failed) = refl
 
 -- a read behind what has come
-module _ (i : Input) (b : List ℕ) (made : ℕ) (so_far : Coming i b made) (room : i.end < length b) (more : i.state ≡ Open) where
+module _ (i : Input) (b : List ℕ) (made : ℕ) (so_far : Coming i b made) (room : i.end < length b) (more : i.last ≡ false) where
   pub one_more : (after : List ℕ) → length after ≡ length b → take i.end after ≡ take i.end b →
       (t : Result ℕ Stop) → AtMost (length b - i.end) t → (j : Input) → j ≡ input_by i.end t → Coming j after (made + 1)
   one_more after long kept t few j e =
@@ -80,13 +78,13 @@ module _ (i : Input) (b : List ℕ) (made : ℕ) (so_far : Coming i b made) (roo
         front = ap (λ (k : Input). k.at) e ∙ by_front i.end t;
         gave = so_far.gave ++ (g ∷ []);
         reads = subst (λ n. ReadsTo n (expecting []) (so_far.gave ++ (g ∷ [])) (incoming j after)) (sym long)
-            (reads_more (length b) so_far.gave _ _ _ so_far.reads (ap is_last more) (omega (arith, here, room)) g is.1.1);
+            (reads_more (length b) so_far.gave _ _ _ so_far.reads more (omega (arith, here, room)) g is.1.1);
         counted = omega (arith, one, counted);
       }
 
 -- the loop has stopped
 pub whole_is : (i : Input) (bytes : List ℕ) (made : ℕ) → Coming i bytes made →
-    (i.state ≡ Open → i.end < length bytes → made ≡ 2 ^ 64 - 1) → IsWhole i bytes
+    (i.last ≡ false → i.end < length bytes → made ≡ 2 ^ 64 - 1) → IsWhole i bytes
 whole_is i bytes made so_far stopped = record {
   within = so_far.within;
   front = so_far.front;
@@ -136,11 +134,6 @@ comes n (fault ∷ gs) l j p file rest r = absurd r.1.0
 
 -- ---- the theorems
 
-still_open : (s : State) → is_last s ≡ false → s ≡ Open
-still_open Open e = refl
-still_open Ended e = absurd (true≢false e)
-still_open Broken e = absurd (true≢false e)
-
 module _ {i : Input} {bytes : List ℕ} (w : IsWhole i bytes) (file rest : List ℕ) (reads : ReadsFile w.gave file rest)
     (enough : length file + interruptions w.gave < 2 ^ 64 - 1) where
   -- where the file is not at its end, the buffer is full
@@ -148,7 +141,7 @@ module _ {i : Input} {bytes : List ℕ} (w : IsWhole i bytes) (file rest : List 
       length w.gave + length rest ≤ length file + interruptions w.gave → i.end ≡ length bytes
   full m is less =
       by_cases (dec_lt i.end (length bytes))
-      (λ l. let n = w.all (still_open i.state (ap (λ z. z.last) is)) l in absurd (omega (arith, n, less, enough)))
+      (λ l. let n = w.all (ap (λ z. z.last) is) l in absurd (omega (arith, n, less, enough)))
       (λ l. let stop = w.within.stop in omega (arith, stop))
 
   -- however the reads cut a file that fits in the buffer with a byte to spare, it lies there whole
@@ -166,10 +159,10 @@ module _ {i : Input} {bytes : List ℕ} (w : IsWhole i bytes) (file rest : List 
           absurd (omega (arith, fits, here, front, came, parts, end))
 
   -- a longer one fills the buffer
-  pub whole_full : length bytes ≤ length file → (i.end ≡ length bytes) × (i.state ≡ Open)
+  pub whole_full : length bytes ≤ length file → (i.end ≡ length bytes) × (i.last ≡ false) × (i.failed ≡ false)
   whole_full over = go (comes (length bytes) w.gave [] (incoming i bytes) w.reads file rest reads)
     where
       go : Comes (length bytes) [] w.gave file rest (incoming i bytes) →
-          (i.end ≡ length bytes) × (i.state ≡ Open)
+          (i.end ≡ length bytes) × (i.last ≡ false) × (i.failed ≡ false)
       go (ends short is) = absurd (omega (arith, short, over))
-      go (rests m is cut less) = (full m is less, still_open i.state (ap (λ z. z.last) is))
+      go (rests m is cut less) = (full m is less, ap (λ z. z.last) is, ap (λ z. z.failed) is)

@@ -1,8 +1,6 @@
 -- The input of a program: the bytes that came, and the buffer in which they lie.
-use Rattle.std.specs.Prelude.{ℕ, ◌+◌, ◌-◌, ◌^◌, ◌≤◌, ◌<◌, ◌≡◌, Bool, true, false, cond, List, [], ◌∷◌, ◌++◌, Result, Ok, Err, length, take, drop, eqb}
+use Rattle.std.specs.Prelude.{ℕ, ◌+◌, ◌-◌, ◌^◌, ◌≤◌, ◌<◌, ◌≡◌, Bool, true, false, List, [], ◌∷◌, ◌++◌, Result, Ok, Err, length, take, drop, eqb}
 use Rattle.streams.specs.declared.input.Input.{Input}
-use Rattle.streams.specs.declared.input.State.{State}
-use Rattle.streams.specs.declared.input.State.TheVariants.{Open, Ended, Broken}
 use Rattle.streams.specs.declared.system.Stop.{Stop}
 use Rattle.streams.specs.declared.system.Stop.TheVariants.{Interrupted, Failed}
 
@@ -78,25 +76,14 @@ pub record Within (i : Input) (n : ℕ) : Type 0 where
 abbrev pub input_left : Input → List ℕ → List ℕ
 input_left i bytes = take (i.end - i.at) (drop i.at bytes)
 
--- whether no more will come, and whether that is because a read failed
-abbrev pub is_last : State → Bool
-is_last Open = false
-is_last Ended = true
-is_last Broken = true
-
-abbrev pub is_broken : State → Bool
-is_broken Open = false
-is_broken Ended = false
-is_broken Broken = true
-
 abbrev pub incoming : Input → List ℕ → Incoming
-incoming i bytes = record { left = input_left i bytes; last = is_last i.state; failed = is_broken i.state }
+incoming i bytes = record { left = input_left i bytes; last = i.last; failed = i.failed }
 
 -- the input once a read answered, where that many bytes were kept at the front
 unfoldable pub input_by : ℕ → Result ℕ Stop → Input
-input_by kept (Ok n) = record { at = 0; end = kept + n; state = cond (eqb n 0) Ended Open }
-input_by kept (Err Interrupted) = record { at = 0; end = kept; state = Open }
-input_by kept (Err Failed) = record { at = 0; end = kept; state = Broken }
+input_by kept (Ok n) = record { at = 0; end = kept + n; last = eqb n 0; failed = false }
+input_by kept (Err Interrupted) = record { at = 0; end = kept; last = false; failed = false }
+input_by kept (Err Failed) = record { at = 0; end = kept; last = true; failed = true }
 
 -- a buffer was filled up, by what a read gave
 abbrev pub IsRefill : Input → List ℕ → Input → List ℕ → Type 0
@@ -108,4 +95,4 @@ pub record IsWhole (i : Input) (bytes : List ℕ) : Type 0 where
   pub front : i.at ≡ 0
   pub gave : List Gave
   pub reads : ReadsTo (length bytes) (expecting []) gave (incoming i bytes)
-  pub all : i.state ≡ Open → i.end < length bytes → length gave ≡ 2 ^ 64 - 1
+  pub all : i.last ≡ false → i.end < length bytes → length gave ≡ 2 ^ 64 - 1

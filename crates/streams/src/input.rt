@@ -1,4 +1,5 @@
-// The input buffer: the bytes from `at` up to `end` are still to be read, and `state` says whether more may come.
+// The input buffer: the bytes from `at` up to `end` are still to be read. `last` says that no more will come, and `failed` that
+// this is because a read failed.
 ghost use Rattle.std.specs.Prelude.{◌≡◌, ◌+◌, ◌-◌, ◌≤◌, ◌<◌, ◌^◌, length, take};
 ghost use Rattle.streams.specs.System.{AtMost};
 ghost use Rattle.streams.specs.Input.{Within, input_by, IsRefill, IsWhole};
@@ -7,20 +8,14 @@ use crate::system;
 use crate::system::Stop;
 use std::io::{Read, Write};
 
-// More may come; the file has ended; or a read failed, after which none is made.
-#[derive(Clone, Copy)]
-pub enum State {
-    Open,
-    Ended,
-    Broken,
-}
-
-// Places, and no slice of the bytes: `refill` moves what is left, for which nothing of them may be lent.
+// Places, and no slice of the bytes: `refill` moves what is left, for which nothing of them may be lent. Both flags stay, since `refill`
+// and `run` (laps) promise on each of their four values (what may not change), and neither has a value beside it.
 #[derive(Clone, Copy)]
 pub struct Input {
     pub at: usize,
     pub end: usize,
-    pub state: State,
+    pub last: bool,
+    pub failed: bool,
 }
 
 // One read of a file into the bytes from `to` on, of which there is at least one, so that a read that gives nothing is the end of the
@@ -47,13 +42,17 @@ fn input_by(kept: usize, got: Result<usize, Stop>) -> Input
     requires { AtMost (2 ^ 64 - 1 - kept) got }
     ensures { result ≡ input_by kept got }
 {
-    let (end, state) = match got {
-        Ok(0) => (kept, State::Ended),
-        Ok(n) => (kept + n, State::Open),
-        Err(Stop::Interrupted) => (kept, State::Open),
-        Err(Stop::Failed) => (kept, State::Broken),
+    let (end, last, failed) = match got {
+        Ok(n) => (kept + n, n == 0, false),
+        Err(Stop::Interrupted) => (kept, false, false),
+        Err(Stop::Failed) => (kept, true, true),
     };
-    Input { at: 0, end, state }
+    Input {
+        at: 0,
+        end,
+        last,
+        failed,
+    }
 }
 
 // What is left moves to the front, and one read of a file fills up the rest; `what` begins the message of one that fails.
@@ -86,11 +85,12 @@ pub fn whole<R: Read, M: Write>(
     let mut input = Input {
         at: 0,
         end: 0,
-        state: State::Open,
+        last: false,
+        failed: false,
     };
     for _ in 0..u64::MAX {
         let end = input.end;
-        if !matches!(input.state, State::Open) || end >= bytes.len() {
+        if input.last || end >= bytes.len() {
             break;
         }
         let got = read_at(file, bytes, end, what, messages);

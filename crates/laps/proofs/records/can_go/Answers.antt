@@ -1,8 +1,7 @@
 -- There is a lap where there is room for a line, and a record lies whole in the input or no more will come.
-use Rattle.std.proofs.Common.{◌≡◌, ◌+◌, ◌-◌, true, inl, inr, ap, sym, arith}
+use Rattle.std.proofs.Common.{◌+◌, ◌-◌, sym, arith}
 use mathlib.Core.Bool.{and-false}
 use borrow.Author.Tests.{le-leb, lt-leb}
-use Rattle.streams.specs.Input.{is_last}
 use Rattle.laps.specs.Progress.{can_go}
 use Rattle.laps.proofs.records.can_go.Goals as goal
 
@@ -31,28 +30,24 @@ returns-then-input c =
     let a = c.args in
     let l = c.if-room-at-lt-LONGEST.false in
     let m = c.if-room-at.false in
-    let k = c.if-input.true in
+    rw (le-leb (a.at.written + 272) a.room (omega arith), c.if-at.false, c.if-input.true)
+
+pub returns-then-input-2 : goal.returns-then-input-2
+unfolding can_go
+returns-then-input-2 c =
+    let a = c.args in
+    let l = c.if-room-at-lt-LONGEST.false in
+    let m = c.if-room-at.false in
+    let k = c.if-input-2.true in
     let room = le-leb (a.at.written + 272) a.room (omega arith) in
-    let more = ap is_last c.in-Open.is in
     let none = lt-leb 10 (a.at.input.end - a.at.input.at) (omega arith) in
-    rw (room, c.if-at.false, more, none)
+    rw (room, c.if-at.false, c.if-input.false, none)
 
-pub returns-else-input : goal.returns-else-input
+pub returns : goal.returns
 unfolding can_go
-returns-else-input c =
+returns c =
     let a = c.args in
     let l = c.if-room-at-lt-LONGEST.false in
     let m = c.if-room-at.false in
     let room = le-leb (a.at.written + 272) a.room (omega arith) in
-    let more = ap is_last c.in-Open.is in
-    sym (rw (room, c.if-at.false, more))
-
-pub returns-in-Ended : goal.returns-in-Ended
-unfolding can_go
-returns-in-Ended c =
-    let a = c.args in
-    let l = c.if-room-at-lt-LONGEST.false in
-    let m = c.if-room-at.false in
-    let room = le-leb (a.at.written + 272) a.room (omega arith) in
-    let last : is_last a.at.input.state ≡ true = elim c.in-Ended.is [ inl q ↦ ap is_last q | inr q ↦ ap is_last q ] in
-    sym (rw (room, c.if-at.false, last))
+    sym (rw (room, c.if-at.false, c.if-input.false))
