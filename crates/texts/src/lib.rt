@@ -150,8 +150,7 @@ impl<'a> Sheet<'a> {
         self.number(n);
     }
 
-    // Lays two numbers with a text between them. Where it is called the text is known, so it is laid out there, as in `field`: a record of the
-    // day runner takes some 70 instructions less than by a call.
+    // Lays two numbers with a text between them. Where it is called the text is known, so it is laid out there, as `field` is.
     #[inline(always)]
     pub fn pair<N: Number>(&mut self, m: N, text: &[u8], n: N)
         requires { HasRoom self.old (length text.now + 2 * N.MOST) }

@@ -39,7 +39,7 @@ fn clear_own(p: &mut Process, n: usize)
     clear(&mut p.second[..n], n);
 }
 
-// A record with task k and nothing collected. Laid out where it is called: some 50 instructions a record less than by a call.
+// A record with task k and nothing collected. Laid out where it is called, which takes fewer instructions.
 #[inline(always)]
 pub fn begin_own(p: &mut Process, a: Access, k: Task)
     requires { Sound a }
