@@ -73,6 +73,7 @@ fn run(s: Notes, bytes: &[u8], book: &mut [[u32; 11]], page: &mut [u32]) -> Note
 {
     let mut table = table::blank();
     let mut notes = s;
+    // The file's own records end it: no index is counted here, so a `for` would be no plainer.
     while !notes.ended {
         let x = next_of(notes, bytes);
         let n = days::lent_for(notes.day, x);

@@ -117,6 +117,7 @@ fn run(
     ensures refusal_value { result.refusal ≡ ended_by (file_on (box_in blank_day t.old page.old) bytes.now) }
 {
     let mut s = start(count);
+    // The file's own records end it: no index is counted here, so a `for` would be no plainer.
     while !s.ended {
         s = lap(s, bytes, t, page, answers);
     }

@@ -85,7 +85,7 @@ pub fn flushed(r: Running, went: bool) -> Running
 
 // Whether there is another lap: the next record lies whole in the input, or no more will come. That the output has room for its line
 // is known; the test here is the one that `lay` then need not make. Its steps stand apart: with `saturating_sub` in place of the first
-// comparisons a refused record took 33 instructions more.
+// comparisons a refused record took some 30 instructions more.
 fn can_go(at: Progress, room: usize) -> bool
     ensures { result ≡ can_go at room }
 {

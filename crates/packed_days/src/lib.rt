@@ -24,7 +24,8 @@ pub fn asked(day: Day, t: &mut [[u32; 369]], x: Reading, page: &mut [u32]) -> Ou
     packed_table::step(day, &mut t[..n], request, page)
 }
 
-// The same, with the reply by numbers: asked as the library's own requests are.
+// The same, with the reply by numbers: asked as the library's own requests are. A twin that stays for its speed: with a second caller of
+// `packed_table::step` beside `packed_requests::asked` each request through the library took 10 to 20 instructions more (measured for K7).
 pub fn replied(day: Day, t: &mut [[u32; 369]], x: Reading, page: &mut [u32]) -> ReplyNumbers
     requires { (length t.old ≡ 8) × LongRows t.old }
     ensures { IsReplied x (box_in day t.old page.old) result t.new page.new }
