@@ -9,12 +9,14 @@ use packed::{FIRST, FIRST_END, MARKS, REGISTER, SECOND, TASK, VIEW};
 use snapshot::Value;
 use unbounded::{Process, Register, Task};
 
-// The first n of eight values.
+// The first n of eight values. By index, since then the compiler moves them at once: with `iter().enumerate()` a record asked of the
+// library by eight desks took 60 instructions more.
 fn lay_view(w: &mut [u32; 369], a: usize, n: usize, v: [Value; 8])
     requires { (a + 16 ≤ 369) × (n ≤ 8) }
     ensures { w.new ≡ sets w.old a (pack_view (take n v)) }
 {
-    for (i, x) in v[..n].iter().enumerate() {
+    for i in 0..n {
+        let x = v[i];
         w[a + 2 * i] = x.word;
         w[a + 2 * i + 1] = x.last;
     }
