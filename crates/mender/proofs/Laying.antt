@@ -1,14 +1,13 @@
 -- A part laid into a room as far as the room goes is stored there from its place on (`laid_within`): places that are not there keep
 -- nothing.
-use Prim.Native.Nat.{ℕ, zero, suc, ◌+◌, ◌-◌, ◌≤◌, min}
+use Prim.Native.Nat.{ℕ, zero, suc, ◌-◌, ◌≤◌, min}
 use native.Mathlib.Omega.{arith}
 use native.Mathlib.Decide.{dec_lt}
 use mathlib.Core.Path.{◌≡◌, refl, sym, ap, ◌∙◌}
 use mathlib.Core.Logic.{by_cases}
-use mathlib.Core.List.{List, [], ◌∷◌, ◌++◌, append_assoc}
-use lib.ListN.{length, take, drop, set, length-set}
-use lib.Seq.{sets, sets-eq, set_out, drop-drop, length-take-le}
-use borrow.Rule.Slice.PartMut.{put_mid}
+use mathlib.Core.List.{List, [], ◌∷◌}
+use lib.ListN.{length, take, set, length-set}
+use lib.Seq.{sets, set_out}
 
 module _ {A : Type 0} where
   none_there : (room : List A) (at : ℕ) (part : List A) → length room ≤ at → sets room at part ≡ room
@@ -26,19 +25,10 @@ module _ {A : Type 0} where
       let long = length-set room at x in
       few_there part (set room at x) (suc at) k (omega (arith, e, long))
 
-  stored_there : (part room : List A) (at fits : ℕ) → fits ≤ length part → at + fits ≤ length room →
-      put_mid at fits room (take fits part) ≡ sets room at (take fits part)
-  stored_there part room at fits h inside =
-      let long = length-take-le fits part h in
-      ap (λ l. take at room ++ (take fits part ++ l)) (drop-drop fits at room ∙ ap (λ j. drop (at + j) room) (sym long))
-      ∙ sym (append_assoc (take at room) (take fits part) (drop (at + length (take fits part)) room))
-      ∙ sym (sets-eq (take fits part) room at (omega (arith, long, inside)))
-
   pub laid_within : (part room : List A) (at first fits : ℕ) → first ≡ min at (length room) → fits ≡ min (length part) (length room - first) →
-      put_mid first fits room (take fits part) ≡ sets room at part
+      sets room first (take fits part) ≡ sets room at part
   laid_within part room at first fits f e =
-      stored_there part room first fits (omega (arith, e)) (omega (arith, e, f))
-      ∙ few_there part room first fits e
+      few_there part room first fits e
       ∙ by_cases (dec_lt at (length room))
       (λ h. ap (λ k. sets room k part) (omega (arith, f, h)))
       (λ h. none_there room first part (omega (arith, f, h)) ∙ sym (none_there room at part (omega (arith, h))))

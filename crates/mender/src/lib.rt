@@ -40,13 +40,16 @@ pub fn start() -> Progress
     }
 }
 
-// Lays a part into a room from place `at` on, as far as the room goes.
+// Lays a part into a room from place `at` on, as far as the room goes. By index: with `copy_from_slice`, which was tried, the library asks
+// for `memmove` beside `memcpy` and `memset`, of which the header says that they are all (tests/bindings).
 fn lay<T: Copy>(part: &[T], room: &mut [T], at: usize)
     ensures { room.new ≡ sets room.old at part.now }
 {
     let first = at.min(room.len());
     let fits = part.len().min(room.len() - first);
-    room[first..first + fits].copy_from_slice(&part[..fits]);
+    for i in 0..fits {
+        room[first + i] = part[i];
+    }
 }
 
 // The next piece: it is judged, and kept or dropped.
