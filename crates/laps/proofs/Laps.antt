@@ -262,7 +262,7 @@ module _ (t : Turn) (y : Reading) where
   abbrev pub lap_outcome : Outcome
   lap_outcome = asked_outcome t.progress.day (take lap_lent t.table) t.page y
 
-  abbrev lap_records : List Process
+  abbrev pub lap_records : List Process
   lap_records = asked_table t.progress.day (take lap_lent t.table) t.page y
 
   abbrev pub lap_page : List ℕ

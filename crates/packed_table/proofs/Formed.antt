@@ -18,7 +18,7 @@ use Rattle.memory.specs.Left.{is_refused, table_left}
 use Rattle.packed_rows.specs.Rows.{unpacked_all, packed_at, packed_by}
 use Rattle.packed_table.specs.Tables.{table_after}
 
-by_form : (t : List (List ℕ)) (x : Request) (ps : List Process) → left_by packed t x ps ≡ packed_by t x ps
+pub by_form : (t : List (List ℕ)) (x : Request) (ps : List Process) → left_by packed t x ps ≡ packed_by t x ps
 by_form t (Open k) ps = refl
 by_form t (Update d w) ps = refl
 by_form t (Scan d) ps = refl

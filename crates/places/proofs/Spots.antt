@@ -55,13 +55,13 @@ module _ (old : List (List ℕ)) (count : ℕ) (fits : count < length old) where
 
 -- ---- a word of the first n, or 0
 
-word_past_n : (n i : ℕ) (ws : List ℕ) → n ≤ i → get_or (take n ws) i 0 ≡ 0
+pub word_past_n : (n i : ℕ) (ws : List ℕ) → n ≤ i → get_or (take n ws) i 0 ≡ 0
 word_past_n zero i ws l = refl
 word_past_n (suc n) i [] l = refl
 word_past_n (suc n) zero (w ∷ ws) l = absurd (omega (arith, l))
 word_past_n (suc n) (suc i) (w ∷ ws) l = word_past_n n i ws (omega (arith, l))
 
-word_past_end : (n i : ℕ) (ws : List ℕ) → length ws ≤ i → get_or (take n ws) i 0 ≡ 0
+pub word_past_end : (n i : ℕ) (ws : List ℕ) → length ws ≤ i → get_or (take n ws) i 0 ≡ 0
 word_past_end zero i ws l = refl
 word_past_end (suc n) i [] l = refl
 word_past_end (suc n) zero (w ∷ ws) l = absurd (omega (arith, l))
