@@ -12,6 +12,6 @@ pub loop-place-preserved : goal.loop-place-preserved
 loop-place-preserved c =
     let a = c.args in (
       omega arith,
-      lays_more (place_text a.n) a.places.now c.loop-place.place-index [] c.loop-place-test.true (omega arith) c.loop-place.invariant.1
+      lays_more (place_text a.n) _ c.loop-place.place-index [] c.loop-place-test.true (omega arith) c.loop-place.invariant.1
           c.lay_place.ensures.laid,
     )

@@ -11,5 +11,5 @@ loop-row-init c = (omega arith, lays_nothing _)
 pub loop-row-preserved : goal.loop-row-preserved
 loop-row-preserved c = (
   omega arith,
-  lays_more row_text c.args.rows.now c.loop-row.row-index [] c.loop-row-test.true (omega arith) c.loop-row.invariant.1 c.lay_row.ensures.laid,
+  lays_more row_text _ c.loop-row.row-index [] c.loop-row-test.true (omega arith) c.loop-row.invariant.1 c.lay_row.ensures.laid,
 )
