@@ -56,7 +56,7 @@ module _ {R : Type 0} (form : Form R) (t : List R) (x : Request) (r : Result (St
   pub after_accepted : is_refused r.answer ≡ false → left_by form t x r.state.table ≡ table_left form t x r
   after_accepted e = ap (λ b. cond b t (left_by form t x r.state.table)) (sym e)
 
-answer_accepted : (f : Find) (k : Task) → is_refused (answer_by f k) ≡ false
+pub answer_accepted : (f : Find) (k : Task) → is_refused (answer_by f k) ≡ false
 answer_accepted f Tasks.Idle = refl
 answer_accepted f (Tasks.Scan t) =
     elim f.page as (λ p. is_refused (answer_by (record { page = p; passed = f.passed }) (Tasks.Scan t)) ≡ false) [
@@ -81,7 +81,7 @@ module _ (day : Day) (ps : List Process) (page : List ℕ) (x : Request) (item :
       sym (ap (λ o. is_refused o.answer) (read_leaves day ps page x item turns accepted q).0)
       ∙ answer_accepted (found_at day ps (number_in x - 1) k) k
 
-  turn_accepted : is_refused (accepted_in (state_of day ps) (item_of page x)).answer ≡ false
+  pub turn_accepted : is_refused (accepted_in (state_of day ps) (item_of page x)).answer ≡ false
   turn_accepted = by_ready (is_ready k) refl
 
 -- an accepted request is answered by no refusal
